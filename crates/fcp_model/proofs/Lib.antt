@@ -1,0 +1,17 @@
+pub mod Acyclic
+pub mod EndingOutcomes
+pub mod Finding
+pub mod Folds
+pub mod GoalNumbers
+pub mod HeadLists
+pub mod Leading
+pub mod MoreSteps
+pub mod NameLists
+pub mod OneDecision
+pub mod ProcessNames
+pub mod QueueMoves
+pub mod Rank
+pub mod Rulings
+pub mod SoundStands
+pub mod StandCounts
+pub mod WaitingProcesses

@@ -1,0 +1,53 @@
+-- The procedures of a module, each a name with a number of arguments, in the order of their first heads.
+use Rattle.std.specs.Prelude.{◌≡◌, ℕ, ◌+◌, ◌<◌, ◌^◌, ◌++◌, List, [], ◌∷◌, length, fold, map, Some, None, Bool, true, false, if◌then◌else◌, ◌&&◌, nat_eq, All}
+use Rattle.std.specs.List.{list_any}
+use Rattle.indexmap.specs.IndexSet.{insert_key}
+use Rattle.fcp_model.specs.declared.source.Clause.{Clause}
+use Rattle.fcp_model.specs.declared.source.Export.{Export}
+use Rattle.fcp_model.specs.declared.source.Module.{Module}
+use Rattle.fcp_model.specs.declared.loaded.Head.{Head}
+
+abbrev pub same_head : Head → Head → Bool
+same_head g h = nat_eq g.name.0 h.name.0 && nat_eq g.arity h.arity
+
+abbrev pub head_of : Clause → Head
+head_of c = record { name = c.head; arity = length c.args }
+
+-- the procedures of some clauses
+abbrev pub heads_in : List Clause → List Head
+heads_in cs = fold (λ hs c. insert_key same_head hs (head_of c)) [] cs
+
+-- a list with a number put first, where a test says so
+abbrev pub put_if : Bool → ℕ → List ℕ → List ℕ
+put_if true n ns = n ∷ ns
+put_if false n ns = ns
+
+-- the positions, from `from` on, of a procedure's clauses among some clauses
+abbrev pub positions_from : ℕ → Head → List Clause → List ℕ
+positions_from from h [] = []
+positions_from from h (c ∷ cs) = put_if (same_head h (head_of c)) from (positions_from (from + 1) h cs)
+
+-- for each procedure the positions of its clauses, in the order of the text
+abbrev pub positions_in : List Clause → List (List ℕ)
+positions_in cs = map (λ h. positions_from 0 h cs) (heads_in cs)
+
+-- the lists with a position put last in the list of its procedure, which is a new one where the procedure is new
+abbrev pub with_position : List Head → Head → ℕ → List (List ℕ) → List (List ℕ)
+with_position [] h at [] = (at ∷ []) ∷ []
+with_position [] h at (ps ∷ pss) = ps ∷ pss
+with_position (g ∷ gs) h at [] = []
+with_position (g ∷ gs) h at (ps ∷ pss) = if same_head h g then (ps ++ at ∷ []) ∷ pss else ps ∷ with_position gs h at pss
+
+-- what the index of a module holds: its procedures, of which there are few enough to number, and the positions of their clauses
+pub record IsIndex (m : Module) (heads : List Head) (places : List (List ℕ)) : Type 0 where
+  pub all_heads : heads ≡ heads_in m.clauses
+  pub few : length heads < 2 ^ 32
+  pub all_places : places ≡ positions_in m.clauses
+  pub short : All (λ c. length c.args < 2 ^ 32) m.clauses
+
+abbrev pub same_export : Head → Export → Bool
+same_export h e = nat_eq e.name.0 h.name.0 && nat_eq e.arity h.arity
+
+-- whether a procedure is exported: all are where the text has no `-export`
+abbrev pub is_exported : Module → Head → Bool
+is_exported m h = elim m.exports [ None ↦ true | Some es ↦ list_any (same_export h) es ]

@@ -1,0 +1,129 @@
+-- The text of a report: the log, the outcome, the goal's variables, the controls that were not reached, and the snapshots.
+use Rattle.std.specs.Prelude.{ℕ, ◌+◌, true, List, [], ◌∷◌, ◌++◌, drop, Option, Some, None, slice_get, option_map, codes, decimal}
+use Rattle.fcp_model.specs.declared.term.ArithOp.{ArithOp}
+use Rattle.fcp_model.specs.declared.term.ArithOp.TheVariants.{Add, Sub, Mul, Div, Mod}
+use Rattle.fcp_model.specs.declared.run.Outcome.{Outcome}
+use Rattle.fcp_model.specs.declared.run.Outcome.TheVariants.{Failed, Aborted, Held, Terminated, Suspended, Budget, Full}
+use Rattle.fcp_model.specs.declared.run.Act.{Act}
+use Rattle.fcp_model.specs.declared.run.Act.TheVariants as act
+use Rattle.fcp_model.specs.declared.run.Control.{Control}
+use Rattle.fcp_model.specs.declared.run.Entry.{Entry}
+use Rattle.fcp_model.specs.declared.run.Entry.TheVariants.{Snapshot}
+use Rattle.fcp_model.specs.declared.names.Sym.{Sym}
+use Rattle.fcp_model.specs.Places.{Variable, placed}
+use Rattle.fcp_model.specs.Terms.{Term, var, Bindings}
+use Rattle.fcp_model.specs.Expressions.{Expr, leaf, op}
+use Rattle.fcp_model.specs.Programs.{Goal, user, true', unifies, assigns, Program}
+use Rattle.fcp_model.specs.States.{Status, ready, waiting, finished, Process, State, is_finished}
+use Rattle.fcp_model.specs.Events.{Event}
+use Rattle.fcp_model.specs.Runs.{last_state}
+use Rattle.fcp_model.specs.Spelling.{Bytes, string_text, name_at, process_text}
+use Rattle.fcp_model.specs.TermText.{cut_text}
+use Rattle.fcp_model.specs.LogText.{both_texts, log_text, places_text}
+
+abbrev pub outcome_word : Outcome → Bytes
+outcome_word Failed = codes "failed"
+outcome_word Aborted = codes "aborted"
+outcome_word Held = codes "held"
+outcome_word Terminated = codes "terminated"
+outcome_word Suspended = codes "suspended"
+outcome_word Budget = codes "budget"
+outcome_word Full = codes "full"
+
+-- `NAME = TERM` for a variable of the goal with a name, its value cut after 65,536 nodes
+abbrev pub variable_line : ℕ → List Bytes → Bindings → ℕ → Option Sym → Option Bytes
+variable_line n names bound k None = Some []
+variable_line n names bound k (Some name) = option_map (λ x. name_at names name.0 ++ codes " = " ++ x ++ codes "\n") (cut_text n names bound 65536 (var (placed 0 k)))
+
+-- the lines of the goal's variables from the k-th on; a variable whose name begins with `_` has no name here
+abbrev pub variable_lines : ℕ → List Bytes → Bindings → ℕ → List (Option Sym) → Option Bytes
+variable_lines n names bound k [] = Some []
+variable_lines n names bound k (v ∷ vs) = both_texts (variable_line n names bound k v) (variable_lines n names bound (k + 1) vs)
+
+abbrev pub act_word : Act → Bytes
+act_word act.Snapshot = codes "snapshot"
+act_word act.Suspend = codes "suspend"
+act_word act.Resume = codes "resume"
+act_word act.Abort = codes "abort"
+
+abbrev pub not_reached_lines : List Control → Bytes
+not_reached_lines [] = []
+not_reached_lines (c ∷ cs) = codes "not reached after " ++ decimal c.after ++ codes " " ++ act_word c.act ++ codes "\n" ++ not_reached_lines cs
+
+abbrev pub operator_text : ArithOp → Bytes
+operator_text Add = codes " + "
+operator_text Sub = codes " - "
+operator_text Mul = codes " * "
+operator_text Div = codes " / "
+operator_text Mod = codes " mod "
+
+-- an expression, each leaf by value and cut after 1,024 nodes; an operand that is itself an operation stands in parentheses
+abbrev mutual
+  pub expr_text : ℕ → List Bytes → Bindings → Expr Variable → Option Bytes
+  expr_text n names s (leaf t) = cut_text n names s 1024 t
+  expr_text n names s (op o a b) = both_texts (operand_text n names s a) (both_texts (Some (operator_text o)) (operand_text n names s b))
+
+  pub operand_text : ℕ → List Bytes → Bindings → Expr Variable → Option Bytes
+  operand_text n names s (leaf t) = cut_text n names s 1024 t
+  operand_text n names s (op o a b) = both_texts (Some (codes "(")) (both_texts (both_texts (operand_text n names s a) (both_texts (Some (operator_text o)) (operand_text n names s b))) (Some (codes ")")))
+
+abbrev pub more_arguments : ℕ → List Bytes → Bindings → List (Term Variable) → Option Bytes
+more_arguments n names s [] = Some []
+more_arguments n names s (t ∷ ts) = both_texts (option_map (λ x. codes "," ++ x) (cut_text n names s 1024 t)) (more_arguments n names s ts)
+
+abbrev pub arguments_text : ℕ → List Bytes → Bindings → List (Term Variable) → Option Bytes
+arguments_text n names s [] = Some []
+arguments_text n names s (t ∷ ts) = both_texts (option_map (λ x. codes "(" ++ x) (cut_text n names s 1024 t)) (option_map (λ x. x ++ codes ")") (more_arguments n names s ts))
+
+-- the name of a procedure
+abbrev pub procedure_name : List Bytes → Program → ℕ → Bytes
+procedure_name names m p = elim (slice_get m p) [ None ↦ [] | Some d ↦ string_text (name_at names d.name) ]
+
+-- a process's goal, each argument by value and cut after 1,024 nodes
+abbrev pub goal_text : ℕ → List Bytes → Program → Bindings → Goal Variable → Option Bytes
+goal_text n names m s (user p ts) = option_map (λ x. procedure_name names m p ++ x) (arguments_text n names s ts)
+goal_text n names m s true' = Some (codes "true")
+goal_text n names m s (unifies t u) = both_texts (cut_text n names s 1024 t) (option_map (λ x. codes " = " ++ x) (cut_text n names s 1024 u))
+goal_text n names m s (assigns t e) = both_texts (cut_text n names s 1024 t) (option_map (λ x. codes " := " ++ x) (expr_text n names s e))
+
+abbrev pub status_text : Status → Bytes
+status_text ready = codes " ready"
+status_text (waiting ps) = codes " waits" ++ places_text ps
+status_text finished = codes " done"
+
+abbrev pub process_line : ℕ → List Bytes → Program → Bindings → Process → Option Bytes
+process_line n names m s p = option_map (λ x. process_text p.name ++ status_text p.status ++ codes ": " ++ x ++ codes "\n") (goal_text n names m s p.goal)
+
+-- a line for each live process, by name
+abbrev pub process_lines : ℕ → List Bytes → Program → Bindings → List Process → Option Bytes
+process_lines n names m s [] = Some []
+process_lines n names m s (p ∷ ps) = elim (is_finished p.status) [
+  | true ↦ process_lines n names m s ps
+  | _ ↦ both_texts (process_line n names m s p) (process_lines n names m s ps)
+]
+
+-- the snapshot of a state
+abbrev pub snapshot_text : ℕ → List Bytes → List (Option Sym) → Program → State → Option Bytes
+snapshot_text n names variables m s =
+    both_texts (Some (codes "snapshot " ++ decimal s.entries ++ codes "\n"))
+    (both_texts (variable_lines n names s.bound 1 variables)
+    (both_texts (process_lines n names m s.bound s.processes) (Some (codes "done\n"))))
+
+-- a snapshot for each entry that asks for one, of the state after it
+abbrev pub snapshots_at : ℕ → List Bytes → List (Option Sym) → Program → State → Entry → Option Bytes
+snapshots_at n names variables m s Snapshot = snapshot_text n names variables m s
+snapshots_at n names variables m s _ = Some []
+
+abbrev pub snapshot_texts : ℕ → List Bytes → List (Option Sym) → Program → List Event → Option Bytes
+snapshot_texts n names variables m [] = Some []
+snapshot_texts n names variables m (ev ∷ evs) = both_texts (snapshots_at n names variables m ev.after ev.entry) (snapshot_texts n names variables m evs)
+
+-- the report of a run from a state: `names` are the numbered strings, `variables` the goal's variables, `reached` the
+-- number of the controls that were made; None where n steps are too few
+abbrev pub report_text : ℕ → List Bytes → List (Option Sym) → Program → State → List Event → Outcome → List Control → ℕ → Option Bytes
+report_text n names variables m s evs o controls reached =
+    both_texts (log_text n names evs)
+    (both_texts (Some (codes "outcome " ++ outcome_word o ++ codes "\n"))
+    (both_texts (variable_lines n names (last_state s evs).bound 1 variables)
+    (both_texts (Some (not_reached_lines (drop reached controls)))
+    (snapshot_texts n names variables m evs))))

@@ -1,0 +1,92 @@
+ghost use Rattle.std.specs.Prelude.{◌≡◌, ◌<◌, length, slice_get, option_map, Some, IfOk, OnErr};
+ghost use Rattle.fcp_model.specs.NameList.{noted, number_of, reserved_names};
+
+use crate::NoMemory;
+use indexmap::IndexSet;
+use std::alloc::Global;
+use std::marker::Model;
+
+/// The number of a string: its position, from 0, in a list of `Names`.
+#[derive(Clone, Copy, Debug, PartialEq, Eq, PartialOrd, Ord, Hash)]
+pub struct Sym(pub u32);
+
+/// The strings of a module and a goal, numbered in order of first appearance. Contracts see the list of their bytes.
+/// The nine reserved names come first.
+#[derive(Drop)]
+pub struct Names {
+    texts: IndexSet<String>,
+    alloc: Global,
+}
+
+impl Model for Names {
+    ghost use Rattle.std.specs.Prelude.{List, ℕ, map, ◌≤◌, ◌^◌, length};
+    ghost use Rattle.std.specs.String.{string_bytes};
+
+    ghost Value = { List (List ℕ) };
+
+    ghost view = { λ n. map string_bytes n.texts.keys };
+
+    ghost invariant = { λ n. length n.texts.keys ≤ 2 ^ 32 };
+}
+
+impl Names {
+    /// The nine reserved names, as numbers 0 to 8.
+    pub fn make(alloc: Global) -> Result<Names, NoMemory>
+        ensures { IfOk result (λ n. n ≡ reserved_names) }
+    {
+        let mut names = Names {
+            texts: IndexSet::new(alloc),
+            alloc,
+        };
+        names.note("true")?;
+        names.note("otherwise")?;
+        names.note("integer")?;
+        names.note("string")?;
+        names.note("constant")?;
+        names.note("list")?;
+        names.note("tuple")?;
+        names.note("known")?;
+        names.note("unknown")?;
+        Ok(names)
+    }
+
+    /// The number of a text, which is put last where it was absent. After `Err` the list is as before.
+    pub fn note(&mut self, text: &str) -> Result<Sym, NoMemory>
+        ensures list { IfOk result (λ s. self.new ≡ noted self.old text.now) }
+        ensures number { IfOk result (λ s. s.0 ≡ number_of self.old text.now) }
+        ensures err { OnErr result (self.new ≡ self.old) }
+    {
+        if let Some(at) = self.texts.get_index_of(text) {
+            return Ok(Sym(at as u32));
+        }
+        if self.texts.len() > u32::MAX as usize {
+            return Err(NoMemory);
+        }
+        let Ok(owned) = String::from_str(self.alloc, text) else {
+            return Err(NoMemory);
+        };
+        let Ok((at, _)) = self.texts.insert_full(owned) else {
+            return Err(NoMemory);
+        };
+        Ok(Sym(at as u32))
+    }
+
+    /// The text of a number that the list has.
+    pub fn text(&self, sym: Sym) -> &str
+        requires { sym.0 < length self.now }
+        ensures { slice_get self.now sym.0 ≡ Some result.now }
+    {
+        self.texts[sym.0 as usize].as_str()
+    }
+
+    /// The text of a number, or `None` exactly where the list has no such number.
+    pub fn get(&self, sym: Sym) -> Option<&str>
+        ensures { option_map (λ text. text.now) result ≡ slice_get self.now sym.0 }
+    {
+        if (sym.0 as usize) < self.texts.len() {
+            Some(self.text(sym))
+        } else {
+            None
+        }
+    }
+}

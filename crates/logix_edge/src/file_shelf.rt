@@ -1,0 +1,117 @@
+ghost use Rattle.std.specs.Prelude.{◌≡◌, None};
+ghost use Rattle.logix_edge.specs.Shelves.{IsWithin};
+
+use crate::faults::Faults;
+use crate::{Fetched, Shelf};
+use std::alloc::Global;
+use std::fs;
+use std::io::Read;
+use std::rt::Files;
+
+/// How many bytes one read asks for.
+const BUFFER: usize = 4096;
+
+/// The files of the system, by their paths. It makes no promise on what a file holds, nor that two fetches of a name
+/// give the same bytes. Each error of the system is a fault.
+#[derive(Drop)]
+pub struct FileShelf<'a, R: Files> {
+    rt: &'a R,
+    faults: Faults,
+}
+
+impl<'a, R: Files> FileShelf<'a, R> {
+    ghost use Rattle.logix_edge.specs.System.{file_faults, file_last};
+
+    /// The shelf of all files that the runtime reaches.
+    pub fn make(rt: &'a R) -> FileShelf<'a, R>
+        ensures sound { file_faults result ≡ 0 }
+        ensures none_failed { file_last result ≡ None }
+    {
+        FileShelf {
+            rt,
+            faults: Faults::new(),
+        }
+    }
+}
+
+impl<'a, R: Files> Shelf for FileShelf<'a, R> {
+    ghost use Rattle.logix_edge.specs.System.{file_faults, file_last};
+
+    ghost held = { λ _. None };
+
+    ghost faults = { file_faults };
+
+    ghost last_failed = { file_last };
+
+    fn fetch(&mut self, alloc: Global, name: &str, limit: u64) -> Fetched {
+        // The copy comes first, so that a fetch that fails can keep the name.
+        let Ok(kept) = String::from_str(alloc, name) else {
+            return Fetched::NoMemory;
+        };
+        match read_file(self.rt, alloc, name, limit) {
+            Fetched::Failed => {
+                self.faults.note(kept);
+                Fetched::Failed
+            }
+            fetched => fetched,
+        }
+    }
+}
+
+/// Reads a file to its end, or until it has more bytes than the limit.
+fn read_file<R: Files>(rt: &R, alloc: Global, name: &str, limit: u64) -> Fetched
+    ensures { IsWithin limit result }
+{
+    let Ok(mut file) = fs::open(rt, name) else {
+        return Fetched::Failed;
+    };
+    let mut bytes = Vec::new(alloc);
+    let mut buffer = [0u8; BUFFER];
+    loop {
+        let Ok(count) = file.read(&mut buffer) else {
+            return Fetched::Failed;
+        };
+        if count == 0 {
+            return Fetched::Bytes(bytes);
+        }
+        if count as u64 > limit - bytes.len() as u64 {
+            return Fetched::TooLong;
+        }
+        if bytes.extend_from_slice(&buffer[..count]).is_err() {
+            return Fetched::NoMemory;
+        }
+    }
+}
+
+#[cfg(test)]
+mod tests {
+    use super::*;
+    use std::test::Fail;
+
+    const PATH: &str = "logix_edge_test_file";
+
+    #[test]
+    fn a_file_of_several_buffers_is_read_up_to_the_limit(rt: HostRuntime) -> Result<(), Fail> {
+        let text = vec![in rt.alloc(); b'x'; 3 * BUFFER]?;
+        fs::write(&rt, PATH, text.as_slice())?;
+        let mut shelf = FileShelf::make(&rt);
+        let whole = shelf.fetch(rt.alloc(), PATH, 3 * BUFFER as u64);
+        let cut = shelf.fetch(rt.alloc(), PATH, 3 * BUFFER as u64 - 1);
+        fs::remove_file(&rt, PATH)?;
+        let lacking = shelf.fetch(rt.alloc(), PATH, 3 * BUFFER as u64);
+        let Fetched::Bytes(bytes) = whole else {
+            return Err(Fail::from("no bytes"));
+        };
+        assert_eq!(rt; bytes.as_slice(), text.as_slice());
+        assert!(rt; matches!(cut, Fetched::TooLong));
+        assert!(rt; matches!(lacking, Fetched::Failed));
+        Ok(())
+    }
+
+    #[test]
+    fn a_folder_cannot_be_read(rt: HostRuntime) -> Result<(), Fail> {
+        let mut shelf = FileShelf::make(&rt);
+        assert!(rt; matches!(shelf.fetch(rt.alloc(), ".", 100), Fetched::Failed));
+        Ok(())
+    }
+}
