@@ -1,0 +1,3 @@
+pub mod DeterminedRuns
+pub mod LawfulRuns
+pub mod LawfulStands

@@ -1,0 +1,60 @@
+-- Laws of decisions, logs and runs of one worker.
+use Rattle.std.specs.Prelude.{◌≡◌, ℕ, ◌-◌, false, List, [], length}
+use Rattle.std.specs.List.{list_any}
+use Rattle.fcp_model.specs.declared.run.Limits.{Limits}
+use Rattle.fcp_model.specs.declared.run.Control.{Control}
+use Rattle.fcp_model.specs.declared.run.Entry.{Entry}
+use Rattle.fcp_model.specs.Places.{Variable}
+use Rattle.fcp_model.specs.Terms.{Bindings}
+use Rattle.fcp_model.specs.Programs.{Goal, Program}
+use Rattle.fcp_model.specs.Decisions.{Decision, Decides}
+use Rattle.fcp_model.specs.States.{State, is_ready, is_open, start}
+use Rattle.fcp_model.specs.Events.{Event}
+use Rattle.fcp_model.specs.Runs.{IsRun, last_state, entries_of, cells_of}
+use Rattle.fcp_model.specs.Bounds.{IsWithin, KeepsControls, commits_in, moves_in}
+use Rattle.fcp_model.specs.OneWorker.{Stand, is_over, begin, Leads, IsOneWorkerRun}
+use Rattle.fcp_model.specs.Outcomes.{Ends}
+use Rattle.fcp_model.specs.Endings.{outcome_at}
+use Rattle.fcp_model.specs.Stands.{IsOrdered, IsSoundStand}
+use Rattle.fcp_laws.specs.LawfulControls.{AreLawful}
+
+-- one decision is made for a goal over a map
+abbrev pub AGoalHasOneDecision : Type 0
+AGoalHasOneDecision = (m : Program) (s : Bindings) (g : Goal Variable) (d d' : Decision) → Decides m s g d → Decides m s g d' → d ≡ d'
+
+-- a log has one list of events from a state, and so one last state
+abbrev pub ALogHasOneHistory : Type 0
+ALogHasOneHistory = (m : Program) (s : State) (log : List Entry) (evs evs' : List Event) → IsRun m s log evs → IsRun m s log evs' → evs ≡ evs'
+
+-- one worker makes one run under limits and controls
+abbrev pub OneWorkerMakesOneRun : Type 0
+OneWorkerMakesOneRun = (m : Program) (limits : Limits) (s : State) (controls : List Control) (evs evs' : List Event) (at at' : Stand) → IsOneWorkerRun m limits s controls evs at → IsOneWorkerRun m limits s controls evs' at' → (evs ≡ evs') × (at ≡ at')
+
+-- a goal's first state is ordered, and each stand to which a run from an ordered state comes is sound
+abbrev pub AStartIsOrdered : Type 0
+AStartIsOrdered = (vars : ℕ) (gs : List (Goal ℕ)) → IsOrdered (start vars gs)
+
+abbrev pub StandsAreSound : Type 0
+StandsAreSound = (m : Program) (limits : Limits) (s : State) (controls : List Control) (evs : List Event) (at : Stand) → IsOrdered s → Leads m limits (begin s controls) evs at → IsSoundStand at
+
+-- where a run that is not over has an empty queue, no process is Ready
+abbrev pub AnEmptyQueueLeavesNoneReady : Type 0
+AnEmptyQueueLeavesNoneReady = (at : Stand) → IsSoundStand at → is_over at.state.mode ≡ false → at.queue ≡ [] → list_any (λ p. is_ready p.status) at.state.processes ≡ false
+
+-- What the run of one worker is by the definitions of runs: its log is a run within the limits in which the controls are
+-- kept, and where it stands in the end is the last state, with the log's counts.
+pub record IsLawfulRun (m : Program) (limits : Limits) (s : State) (controls : List Control) (evs : List Event) (at : Stand) : Type 0 where
+  pub legal : IsRun m s (entries_of evs) evs
+  pub last : last_state s evs ≡ at.state
+  pub within : IsWithin limits evs
+  pub kept : KeepsControls controls (length controls - length at.controls) (entries_of evs)
+  pub commits : at.commits ≡ commits_in (entries_of evs)
+  pub moves : at.moves ≡ moves_in (entries_of evs)
+  pub cells : at.cells ≡ cells_of evs
+
+abbrev pub OneWorkerRunsAreRuns : Type 0
+OneWorkerRunsAreRuns = (m : Program) (limits : Limits) (s : State) (controls : List Control) (evs : List Event) (at : Stand) → IsOrdered s → s.mode ≡ is_open → AreLawful controls → IsOneWorkerRun m limits s controls evs at → IsLawfulRun m limits s controls evs at
+
+-- a run of one worker ends with the outcome that is read off where it stands
+abbrev pub OneWorkerRunsEnd : Type 0
+OneWorkerRunsEnd = (m : Program) (limits : Limits) (s : State) (controls : List Control) (evs : List Event) (at : Stand) → IsOrdered s → s.mode ≡ is_open → IsOneWorkerRun m limits s controls evs at → Ends m limits s evs (outcome_at limits at)

@@ -1,0 +1,2 @@
+pub mod LawfulControls
+pub mod Laws

@@ -1,0 +1,29 @@
+//! Laws of the definitions of Flat Concurrent Prolog's runs. Each function does nothing: its contract is the law.
+#![tactic(auto)]
+
+ghost use Rattle.fcp_laws.specs.Laws.{AGoalHasOneDecision, ALogHasOneHistory, OneWorkerMakesOneRun, AStartIsOrdered, StandsAreSound, AnEmptyQueueLeavesNoneReady, OneWorkerRunsAreRuns, OneWorkerRunsEnd};
+
+/// One decision is made for a goal over a map.
+pub fn decisions()
+    ensures { AGoalHasOneDecision }
+{}
+
+/// A log has one list of events, and one worker makes one run.
+pub fn determined_runs()
+    ensures history { ALogHasOneHistory }
+    ensures worker { OneWorkerMakesOneRun }
+{}
+
+/// Wherever a run of one worker stands, its queue holds the Ready processes of its state.
+pub fn sound_stands()
+    ensures start { AStartIsOrdered }
+    ensures stands { StandsAreSound }
+    ensures none_ready { AnEmptyQueueLeavesNoneReady }
+{}
+
+/// The run of one worker is a run within its limits in which its controls are kept, and it ends with the outcome that is
+/// read off where it stands.
+pub fn one_worker_runs()
+    ensures lawful { OneWorkerRunsAreRuns }
+    ensures outcome { OneWorkerRunsEnd }
+{}

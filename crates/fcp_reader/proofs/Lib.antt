@@ -1,0 +1,9 @@
+pub mod PieceLaws
+pub mod Scan
+pub mod Walks
+pub mod Follow
+pub mod Partial
+pub mod Sound
+pub mod Verdicts
+pub mod PlainWords
+pub mod PlainTrees

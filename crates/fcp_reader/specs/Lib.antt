@@ -1,0 +1,10 @@
+pub mod Pieces
+pub mod Tokens
+pub mod Words
+pub mod Calls
+pub mod Items
+pub mod Clauses
+pub mod Goals
+pub mod Grammar
+pub mod Texts
+pub mod Plain
