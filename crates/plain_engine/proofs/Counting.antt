@@ -1,0 +1,49 @@
+-- Without controls each event of a run is a move.
+use Rattle.std.proofs.Common.{◌≡◌, ℕ, zero, suc, ◌+◌, Bool, true, false, cond, List, [], ◌∷◌, ◌++◌, length, refl, sym, ap, ◌∙◌, subst, arith}
+use Rattle.std.proofs.lemmas.List.Sums.{sum_by-cons}
+use Rattle.fcp_model.specs.declared.run.Limits.{Limits}
+use Rattle.fcp_model.specs.declared.run.Control.{Control}
+use Rattle.fcp_model.specs.Programs.{Program}
+use Rattle.fcp_model.specs.Decisions.{Decision, commits, decides_fail, waits_on}
+use Rattle.fcp_model.specs.States.{State, Process}
+use Rattle.fcp_model.specs.Events.{Event, event_of}
+use Rattle.fcp_model.specs.Runs.{entries_of}
+use Rattle.fcp_model.specs.Bounds.{is_move, moves_in, one}
+use Rattle.fcp_model.specs.OneWorker.{Stand, begin, Leads}
+use Rattle.fcp_model.proofs.Rulings.{Holds}
+use Rattle.fcp_model.proofs.StandCounts.{LeadsOn, by_rulings, leads_counts}
+
+-- each event is a move
+abbrev pub AreMoves : List Event → Type 0
+AreMoves [] = Unit {0}
+AreMoves (ev ∷ evs) = (is_move ev.entry ≡ true) × AreMoves evs
+
+abbrev MovesOn : Stand → List Event × Stand → Type 0
+MovesOn at x = at.controls ≡ [] → AreMoves x.0
+
+event_moves : (m : Program) (s : State) (p : Process) (d : Decision) → is_move (event_of m s p d).entry ≡ true
+event_moves m s p (commits k bs rs) = refl
+event_moves m s p (waits_on rs) = refl
+event_moves m s p (decides_fail rs) = refl
+
+moves_on : (n : ℕ) (m : Program) (limits : Limits) (at : Stand) → Holds n m limits at (LeadsOn MovesOn at)
+moves_on n m limits at = record {
+  at_end = tt;
+  at_control = λ o c cs i j x rec none. let wrong : c ∷ cs ≡ [] = sym i ∙ none in cc;
+  at_pass = λ p rest d f i x rec none. rec none;
+  at_move = λ p rest d f i x rec none. (event_moves m at.state p d, rec none);
+}
+
+pub all_moves : (m : Program) (limits : Limits) (s : State) (evs : List Event) (at : Stand) → Leads m limits (begin s []) evs at → AreMoves evs
+all_moves m limits s evs at l = by_rulings l.steps m limits MovesOn (λ to none. tt) (moves_on l.steps m limits) l.count (begin s []) (evs, at) l.followed refl
+
+moves_counted : (evs : List Event) → AreMoves evs → length evs ≡ moves_in (entries_of evs)
+moves_counted [] h = refl
+moves_counted (ev ∷ evs) h =
+    let rec : length evs ≡ moves_in (entries_of evs) = moves_counted evs h.1 in
+    let here : one (is_move ev.entry) ≡ one true = ap one h.0 in
+    omega (arith, rec, here, sum_by-cons (λ e. cond (is_move e) 1 0) ev.entry (entries_of evs))
+
+-- so there are as many events as moves
+pub events_counted : (m : Program) (limits : Limits) (s : State) (evs : List Event) (at : Stand) → Leads m limits (begin s []) evs at → length evs ≡ at.moves
+events_counted m limits s evs at l = moves_counted evs (all_moves m limits s evs at l) ∙ sym (leads_counts m limits s [] evs at l).moves

@@ -1,0 +1,37 @@
+-- What a decision says, and what it leaves sound.
+use Rattle.std.specs.Prelude.{◌≡◌, ℕ, suc, List, ◌++◌, map, Some}
+use Rattle.fcp_model.specs.Places.{Variable, places_among}
+use Rattle.fcp_model.specs.Terms.{Bindings}
+use Rattle.fcp_model.specs.Programs.{Goal, user, Clause, Program}
+use Rattle.fcp_model.specs.Decisions.{commits, decides_fail, waits_on, Decides}
+use Rattle.fcp_model.specs.Cells.{clause_used}
+use Rattle.fcp_model.specs.Events.{settled}
+use Rattle.plain_engine.specs.declared.word.Word.{Word}
+use Rattle.plain_engine.specs.declared.decision.Decision.{Decision}
+use Rattle.plain_engine.specs.declared.decision.Decision.TheVariants.{Commit, Hang, Fail}
+use Rattle.plain_engine.specs.Words.{term_of_word, binds_of}
+use Rattle.plain_engine.specs.Sound.{AreAmong, IsSound, AreFresh}
+
+-- the call of a procedure with some words
+abbrev pub goal_with : ℕ → List Word → Goal Variable
+goal_with procedure args = user procedure (map term_of_word args)
+
+-- the decision, by the definitions, with some reads; a waiting set is that of the reads
+abbrev pub DecidesAs : Program → Bindings → Goal Variable → Decision → Type 0
+DecidesAs m s g (Commit k bs) = (rs : List Variable) × Decides m s g (commits k (binds_of bs.items) rs)
+DecidesAs m s g (Hang ps) = (rs : List Variable) × Decides m s g (waits_on rs) × (ps.items ≡ places_among rs)
+DecidesAs m s g Fail = (rs : List Variable) × Decides m s g (decides_fail rs)
+
+-- what the commit of clause k leaves: the clause is there, its bindings are over its own variables, and once these have
+-- their places of entry n + 1 the bindings can be put into the state one after another and leave it sound
+pub record Settles (n : ℕ) (m : Program) (s : Bindings) (g : Goal Variable) (k : ℕ) (bs : Bindings) : Type 0 where
+  pub clause : Clause
+  pub used : clause_used m g k ≡ Some clause
+  pub among : AreAmong n clause.vars bs
+  pub fresh : AreFresh s (settled (suc n) bs)
+  pub sound : IsSound (suc n) (s ++ settled (suc n) bs)
+
+abbrev pub KeepsSound : ℕ → Program → Bindings → Goal Variable → Decision → Type 0
+KeepsSound n m s g (Commit k bs) = Settles n m s g k (binds_of bs.items)
+KeepsSound n m s g (Hang ps) = Unit {0}
+KeepsSound n m s g Fail = Unit {0}

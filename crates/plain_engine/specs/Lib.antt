@@ -1,0 +1,10 @@
+pub mod Additions
+pub mod Deciding
+pub mod EndTexts
+pub mod Engines
+pub mod Pairing
+pub mod Plain
+pub mod Processes
+pub mod Sound
+pub mod Values
+pub mod Words

@@ -1,0 +1,34 @@
+-- Clauses whose heads are of constants and variables alone, without a guard.
+use Rattle.std.specs.Prelude.{◌≡◌, ℕ, true, List}
+use Rattle.fcp_model.specs.declared.term.Term.{Term}
+use Rattle.fcp_model.specs.declared.source.Call.{Call}
+use Rattle.fcp_model.specs.declared.source.Item.{Item}
+use Rattle.fcp_model.specs.declared.source.Clause.{Clause}
+use Rattle.fcp_model.specs.declared.source.Module.{Module}
+use Rattle.fcp_model.specs.declared.source.GoalText.{GoalText}
+use Rattle.fcp_model.specs.FirstForm.{is_flat, are_flat, is_plain_call, are_plain_items, is_plain_clause, is_plain_module, is_plain_goal}
+
+-- a module of constants and variables alone, over some number of strings
+abbrev pub IsPlain : Module → Type 0
+IsPlain m = (names : ℕ) × (is_plain_module names m ≡ true)
+
+-- such a clause
+abbrev pub IsPlainClause : Clause → Type 0
+IsPlainClause c = (names : ℕ) × (is_plain_clause names c ≡ true)
+
+-- a string or one of the first `vars` variables
+abbrev pub IsFlat : ℕ → Term → Type 0
+IsFlat vars t = (names : ℕ) × (is_flat names vars t ≡ true)
+
+abbrev pub AreFlat : ℕ → List Term → Type 0
+AreFlat vars ts = (names : ℕ) × (are_flat names vars ts ≡ true)
+
+-- a call with flat arguments
+abbrev pub IsPlainCall : ℕ → Call → Type 0
+IsPlainCall vars c = (names : ℕ) × (is_plain_call names vars c ≡ true)
+
+abbrev pub ArePlainItems : ℕ → List Item → Type 0
+ArePlainItems vars is = (names : ℕ) × (are_plain_items names vars is ≡ true)
+
+abbrev pub IsPlainGoal : GoalText → Type 0
+IsPlainGoal g = (names : ℕ) × (is_plain_goal names g ≡ true)

@@ -1,0 +1,30 @@
+//! The run of one worker over modules and goals of constants and variables alone, with its report.
+#![tactic(auto)]
+
+mod children;
+mod costs;
+mod decision;
+mod engine;
+mod lines;
+mod pairing;
+mod process;
+mod report;
+mod run;
+mod settle;
+mod spelling;
+mod starting;
+mod store;
+mod trail;
+mod trial;
+mod value;
+mod wakes;
+mod word;
+
+pub use decision::{Decision, decide};
+pub use pairing::Unified;
+pub use process::{Process, Waiting};
+pub use report::Report;
+pub use run::run_goal;
+pub use store::Store;
+pub use trail::Trail;
+pub use word::{Binding, Variable, Word};
