@@ -1,0 +1,5 @@
+pub mod Answering
+pub mod CalledItems
+pub mod Loading
+pub mod Pieces
+pub mod Plainness

@@ -1,0 +1,47 @@
+//! The program's work: its words, the fetch of the file, the run, and the writing of the report.
+#![tactic(auto)]
+
+ghost use Rattle.std.specs.Prelude.{◌≡◌, map};
+ghost use Rattle.std.specs.String.{string_bytes};
+ghost use Rattle.logix_edge.specs.Causes.{Rose};
+ghost use Rattle.logix_app.specs.Headline.{Answers, Writes, HasRun, IsRunOrNoMemory};
+
+mod answer;
+mod called;
+mod run;
+mod status;
+#[cfg(test)]
+mod tests;
+mod words;
+mod writing;
+
+use answer::answer_of;
+use logix_edge::{Put, Shelf, Sink};
+pub use status::Status;
+use std::alloc::Global;
+use writing::put_all;
+
+/// Does what the words ask for: `run FILE GOAL` runs the goal over the module of the file, with one worker, and puts the
+/// report to the sink. Any other answer but that memory ran out is a line of its own.
+pub fn run_alone<S: Shelf, K: Sink>(
+    alloc: Global,
+    words: &[String],
+    shelf: &mut S,
+    sink: &mut K,
+) -> Status
+    ensures same { S.held shelf.new ≡ S.held shelf.old }
+
+    ensures answer { Writes
+        (Answers (map string_bytes words.now) (S.held shelf.old) (S.faults shelf.old) (S.faults shelf.new) (S.last_failed shelf.new))
+        (K.written sink.old) (K.written sink.new) (K.faults sink.old) (K.faults sink.new) result }
+
+    ensures complete { HasRun (map string_bytes words.now) (S.held shelf.old)
+        → ¬ Rose (S.faults shelf.old) (S.faults shelf.new) → ¬ Rose (K.faults sink.old) (K.faults sink.new)
+        → IsRunOrNoMemory result }
+{
+    let answer = answer_of(alloc, words, shelf);
+    match put_all(sink, answer.text()) {
+        Put::Done => answer.status(),
+        Put::Failed => Status::Sink,
+    }
+}
