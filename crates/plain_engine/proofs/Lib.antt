@@ -13,6 +13,7 @@ pub mod Found
 pub mod FreshBindings
 pub mod FrontRulings
 pub mod Heads
+pub mod NoWaking
 pub mod NumberedClauses
 pub mod OldGoals
 pub mod Pairs

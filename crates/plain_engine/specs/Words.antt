@@ -1,5 +1,5 @@
 -- What words, bindings and trails stand for.
-use Rattle.std.specs.Prelude.{List, map}
+use Rattle.std.specs.Prelude.{Bool, true, false, List, map}
 use Rattle.fcp_model.specs.declared.run.Place.{Place}
 use Rattle.fcp_model.specs.declared.term.Term as source
 use Rattle.fcp_model.specs.Places.{Variable, made, own}
@@ -14,6 +14,11 @@ use Rattle.plain_engine.specs.declared.trail.Trail.{Trail}
 abbrev pub variable_of : word_variable.Variable → Variable
 variable_of (Made p) = made p
 variable_of (Own k) = own k
+
+-- whether a variable is a place
+abbrev pub is_place : Variable → Bool
+is_place (made p) = true
+is_place (own k) = false
 
 abbrev pub term_of_word : Word → Term Variable
 term_of_word (Text s) = string s.0

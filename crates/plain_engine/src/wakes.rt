@@ -1,8 +1,9 @@
 ghost use Rattle.std.specs.Prelude.{◌≡◌, ◌++◌, map, filter, not, is_some, IfOk, OnOk};
+ghost use Rattle.std.specs.List.{list_any};
 ghost use Rattle.fcp_model.specs.Places.{made};
 ghost use Rattle.fcp_model.specs.Terms.{find};
 ghost use Rattle.fcp_model.specs.Events.{binds_one, is_woken, made_ready};
-ghost use Rattle.plain_engine.specs.Words.{binds_of};
+ghost use Rattle.plain_engine.specs.Words.{variable_of, is_place, binds_of};
 ghost use Rattle.plain_engine.specs.Processes.{process_of, waiting_process};
 
 use crate::{Binding, Process, Variable, Waiting};
@@ -34,6 +35,15 @@ fn binds_one(bindings: &[Binding], places: &[Place]) -> bool
     false
 }
 
+/// Whether bindings bind a place, and not the clause's own variables alone.
+fn bind_a_place(bindings: &[Binding]) -> bool
+    ensures { result ≡ list_any (λ b. is_place (variable_of b.variable)) bindings.now }
+{
+    bindings
+        .iter()
+        .any(|binding| matches!(binding.variable, Variable::Made(_)))
+}
+
 /// Moves the waiting processes that wait on a bound place to the back of a queue, in order of name, and notes their names.
 pub(crate) fn wake(
     alloc: Global,
@@ -46,6 +56,9 @@ pub(crate) fn wake(
     ensures ready { OnOk result (map process_of queue.new.items ≡ map process_of queue.old.items ++ map made_ready (filter (λ p. is_woken (binds_of bindings.now) p.status) (map waiting_process waiting.old.items))) }
 {
     let mut names = Vec::new(alloc);
+    if !bind_a_place(bindings) {
+        return Ok(names);
+    }
     let before = std::mem::replace(waiting, Vec::new(alloc));
     for sleeper in before {
         if binds_one(bindings, sleeper.places.as_slice()) {

@@ -1,0 +1,149 @@
+#!/usr/bin/env python3
+"""Measures runs of one worker: entries of the log per second, and peak memory.
+
+    bench/one_worker.py [--program PATH] [--rounds N]
+
+Each case is run at two sizes, N rounds each (3 where N is left out), with the report going to /dev/null. The fastest
+round counts, and the largest peak. Time is that of the whole call, from its start to its end. `fixed` is a call of one
+commit. Its peak is the least that can be measured here: the system counts what this script had in memory when it
+started the program, so a peak near that of `fixed` says only that the program needs no more.
+"""
+import argparse
+import os
+import sys
+import tempfile
+import time
+
+ROOT = os.path.dirname(os.path.dirname(os.path.abspath(__file__)))
+PROGRAM = os.path.join(ROOT, "crates", "logix", "out", "logix")
+
+# the exit statuses of runs that terminated, and that met the limit of commits
+TERMINATED, BUDGET = 0, 9
+
+
+def chain(n):
+    """n procedures, each of which calls the next: n commits, each of another procedure."""
+    return "".join(f"p{i} :- p{i + 1}.\n" for i in range(1, n)) + f"p{n}.\n", "p1", TERMINATED, n
+
+
+def one_procedure(n):
+    """One procedure that calls itself, to the limit of 1,000,000 commits; it has no other size."""
+    return "loop :- loop.\n", "loop", BUDGET, 1_000_000
+
+
+def tree(n):
+    """A binary tree of n levels below the root, of n + 1 procedures: 2^(n + 1) - 1 commits, and as many processes."""
+    levels = "".join(f"t{i} :- t{i + 1}, t{i + 1}.\n" for i in range(n))
+    return levels + f"t{n}.\n", "t0", TERMINATED, 2 ** (n + 1) - 1
+
+
+def waiting(n):
+    """The same tree with a variable, whose 2^n leaves hang on it and are all woken by one commit at the end."""
+    levels = "".join(f"t{i}(X) :- t{i + 1}(X), t{i + 1}(X).\n" for i in range(n))
+    # `late` is n + 2 commits long, so that it writes only after all leaves hang.
+    late = "".join(f"late{i}(X) :- late{i + 1}(X).\n" for i in range(n + 2))
+    goal = "t0(X?), late0(X)"
+    entries = (2 ** n - 1) + 2 * 2 ** n + n + 3
+    return levels + f"t{n}(a).\n" + late + f"late{n + 2}(a).\n", goal, TERMINATED, entries
+
+
+def row(n):
+    """A row of n processes, each of which waits for its left neighbour: n hangs, and n commits of which each wakes one."""
+    links = "".join(f"r{i}(X) :- pass(X?, Y), r{i + 1}(Y?).\n" for i in range(n)) + f"r{n}(_).\npass(a, a).\n"
+    # `late` writes the first variable after all others hang.
+    late = "".join(f"late{i}(X) :- late{i + 1}(X).\n" for i in range(n + 2)) + f"late{n + 2}(a).\n"
+    return links + late, "r0(X?), late0(X)", TERMINATED, (n + 1) + 2 * n + (n + 3)
+
+
+def carried(n):
+    """A value that n commits hand on, and that a process reads at each of them: 2n + 1 commits."""
+    steps = "".join(f"w{i}(X) :- r(X?), w{i + 1}(X).\n" for i in range(n))
+    return steps + f"w{n}(_).\nr(a).\n", "w0(a)", TERMINATED, 2 * n + 1
+
+
+CASES = [
+    ("fixed", chain, (1,)),
+    ("loop", one_procedure, (1_000_000,)),
+    ("chain", chain, (20_000, 40_000)),
+    ("tree", tree, (17, 18)),
+    ("waiting", waiting, (15, 16)),
+    ("row", row, (4_000, 8_000)),
+    ("carried", carried, (5_000, 10_000)),
+]
+
+
+def call(program, file, goal):
+    """Seconds, peak memory in KiB and exit status of one call, whose report goes nowhere."""
+    null = os.open(os.devnull, os.O_RDWR)
+    begun = time.monotonic()
+    child = os.fork()
+    if child == 0:
+        os.dup2(null, 0)
+        os.dup2(null, 1)
+        os.execv(program, [program, "run", file, goal])
+    _, status, usage = os.wait4(child, 0)
+    seconds = time.monotonic() - begun
+    os.close(null)
+    return seconds, usage.ru_maxrss, os.waitstatus_to_exitcode(status)
+
+
+def entries_of(program, file, goal):
+    """The number of entries of the log, from the report of one more call."""
+    with tempfile.TemporaryFile() as out:
+        child = os.fork()
+        if child == 0:
+            os.dup2(out.fileno(), 1)
+            os.execv(program, [program, "run", file, goal])
+        os.waitpid(child, 0)
+        out.seek(0)
+        for line in out:
+            if line.startswith(b"end "):
+                return int(line[4:])
+    return None
+
+
+def measure(program, folder, rounds, name, make, size):
+    text, goal, wanted, entries = make(size)
+    file = os.path.join(folder, "module.fcp")
+    with open(file, "w", encoding="ascii") as out:
+        out.write(text)
+    got = entries_of(program, file, goal)
+    if got != entries:
+        sys.exit(f"{name} at {size}: {got} entries, and {entries} were expected")
+    runs = [call(program, file, goal) for _ in range(rounds)]
+    for _, _, status in runs:
+        if status != wanted:
+            sys.exit(f"{name} at {size}: exit status {status}, and {wanted} was expected")
+    return len(text), entries, min(run[0] for run in runs), max(run[1] for run in runs)
+
+
+def main():
+    options = argparse.ArgumentParser(description="Measures runs of one worker.")
+    options.add_argument("--program", default=PROGRAM)
+    options.add_argument("--rounds", type=int, default=3)
+    chosen = options.parse_args()
+    if not os.access(chosen.program, os.X_OK):
+        sys.exit(f"no program at {chosen.program}: ./logix builds it")
+    print("| case | size | file, bytes | entries | seconds | entries per second | peak, KiB | peak bytes per entry |")
+    print("|---|---:|---:|---:|---:|---:|---:|---:|")
+    pairs = []
+    with tempfile.TemporaryDirectory() as folder:
+        for name, make, sizes in CASES:
+            rows = []
+            for size in sizes:
+                length, entries, seconds, peak = measure(chosen.program, folder, chosen.rounds, name, make, size)
+                rows.append((entries, seconds, peak))
+                print(f"| {name} | {size:,} | {length:,} | {entries:,} | {seconds:.3f} | {entries / seconds:,.0f} | "
+                      f"{peak:,} | {peak * 1024 / entries:,.0f} |", flush=True)
+            if len(rows) == 2:
+                pairs.append((name, *rows))
+    print()
+    print("| case | ratio of entries | ratio of seconds | ratio of peaks | bytes per further entry |")
+    print("|---|---:|---:|---:|---:|")
+    for name, (fewer, quick, low), (more, slow, high) in pairs:
+        further = (high - low) * 1024 / (more - fewer)
+        print(f"| {name} | {more / fewer:.2f} | {slow / quick:.2f} | {high / low:.2f} | {further:,.0f} |")
+
+
+if __name__ == "__main__":
+    main()
