@@ -1,6 +1,6 @@
 -- Steps of a value.
 use Rattle.std.proofs.Common.{◌≡◌, ℕ, zero, suc, List, [], ◌∷◌, ◌++◌, length, Option, Some, None, refl, sym, ap, ◌∙◌, arith}
-use Rattle.std.specs.Prelude.{IsSome}
+use Rattle.std.specs.Prelude.{IsSome, MatchOption, option_map}
 use Rattle.fcp_model.specs.declared.run.Place.{Place}
 use Rattle.fcp_model.specs.Places.{Variable, own}
 use Rattle.fcp_model.specs.Terms.{Term, number, string, nil, cons, tuple, var, ro, first, Bindings, find}
@@ -58,7 +58,7 @@ left_of s (Text c) = refl
 left_of s (Var v) = refl
 left_of s (ReadOnly v) = refl
 
-left_marked : (s : Bindings) (w : Word) → steps_left s (marked w) ≡ steps_left s w
+pub left_marked : (s : Bindings) (w : Word) → steps_left s (marked w) ≡ steps_left s w
 left_marked s (Text c) = refl
 left_marked s (Var v) = refl
 left_marked s (ReadOnly v) = refl
@@ -90,3 +90,14 @@ find-own [] k = refl
 find-own (e ∷ es) k = find-own es k
 
 pub ruleset find_two = (find_store, find_trail)
+
+-- a bound variable leads to its word by either occurrence
+pub both_on : (s : Bindings) (v : word_variable.Variable) (o : Option Word) → Ranked s → find s (variable_of v) ≡ option_map term_of_word o
+    → MatchOption o (find s (variable_of v) ≡ None) (λ w. LeadsTo s (Var v) w × LeadsTo s (ReadOnly v) (marked w))
+both_on s v None r e = e
+both_on s v (Some w) r e = (var_on s v w r e, ro_on s v w r e)
+
+pub by_var : (s : Bindings) (v : word_variable.Variable) (o : Option Word) → MatchOption o (find s (variable_of v) ≡ None) (λ w. LeadsTo s (Var v) w × LeadsTo s (ReadOnly v) (marked w))
+    → MatchOption o (IsAtEnd s (Var v)) (LeadsTo s (Var v))
+by_var s v None h = h
+by_var s v (Some w) h = h.0

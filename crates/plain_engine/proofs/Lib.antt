@@ -23,6 +23,7 @@ pub mod RuleSteps
 pub mod Ruling
 pub mod RunMeasure
 pub mod Settling
+pub mod ShortWays
 pub mod ShownWords
 pub mod Sounds
 pub mod SourceTerms

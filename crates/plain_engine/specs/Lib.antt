@@ -5,6 +5,7 @@ pub mod Engines
 pub mod Pairing
 pub mod Plain
 pub mod Processes
+pub mod Shortcuts
 pub mod Sound
 pub mod Values
 pub mod Words

@@ -1,9 +1,10 @@
-ghost use Rattle.std.specs.Prelude.{◌≡◌, ◌++◌, MatchOption, option_map};
+ghost use Rattle.std.specs.Prelude.{◌≡◌, ◌++◌, None, MatchOption, IfSome, option_map};
 ghost use Rattle.fcp_model.specs.Terms.{find};
 ghost use Rattle.fcp_model.specs.Value.{Values};
 ghost use Rattle.fcp_model.specs.Ranks.{Ranked};
 ghost use Rattle.plain_engine.specs.Words.{variable_of, term_of_word, bound_of, bound_by};
 ghost use Rattle.plain_engine.specs.Values.{look_of, IsAtEnd, marked, LeadsTo};
+ghost use Rattle.plain_engine.specs.Shortcuts.{IsShortcutOf};
 
 use crate::{Store, Trail, Variable, Word};
 
@@ -28,13 +29,25 @@ fn stored(store: &Store, variable: Variable) -> Option<Word>
     }
 }
 
-/// The word with a read-only mark.
-fn read_only(word: Word) -> Word
-    ensures { result ≡ marked word }
+/// A word on the way from a bound variable to its value: by a shortcut where the store has one.
+fn next_of(store: &Store, trail: &Trail, variable: Variable) -> Option<Word>
+    requires { Ranked (bound_of store.now ++ bound_by trail.now) }
+    ensures { let s = bound_of store.now ++ bound_by trail.now in
+        MatchOption result (find s (variable_of variable) ≡ None) (λ w. LeadsTo s (Word.Var variable) w × LeadsTo s (Word.ReadOnly variable) (marked w)) }
 {
-    match word {
-        Word::Var(variable) => Word::ReadOnly(variable),
-        other => other,
+    match shortcut(store, variable) {
+        Some(next) => Some(next),
+        None => lookup(store, trail, variable),
+    }
+}
+
+/// The store's shortcut for a variable: a clause's own has none.
+fn shortcut(store: &Store, variable: Variable) -> Option<Word>
+    ensures { IfSome result (IsShortcutOf (bound_of store.now) variable) }
+{
+    match variable {
+        Variable::Made(place) => store.shortcut(place),
+        Variable::Own(_) => None,
     }
 }
 
@@ -46,9 +59,9 @@ fn behind(store: &Store, trail: &Trail, word: Word) -> Option<Word>
 {
     match word {
         Word::Text(_) => None,
-        Word::Var(variable) => lookup(store, trail, variable),
-        Word::ReadOnly(variable) => match lookup(store, trail, variable) {
-            Some(next) => Some(read_only(next)),
+        Word::Var(variable) => next_of(store, trail, variable),
+        Word::ReadOnly(variable) => match next_of(store, trail, variable) {
+            Some(next) => Some(next.read_only()),
             None => None,
         },
     }

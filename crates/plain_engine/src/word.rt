@@ -2,6 +2,7 @@ ghost use Rattle.std.specs.Prelude.{◌≡◌};
 ghost use Rattle.fcp_model.specs.Places.{is_same, is_older};
 ghost use Rattle.plain_engine.specs.Words.{variable_of, source_of};
 ghost use Rattle.plain_engine.specs.Plain.{IsFlat};
+ghost use Rattle.plain_engine.specs.Values.{marked};
 
 use fcp_model::{Place, Sym, Term};
 
@@ -58,6 +59,16 @@ impl Variable {
 }
 
 impl Word {
+    /// The word with a read-only mark.
+    pub fn read_only(self) -> Word
+        ensures { result ≡ marked self }
+    {
+        match self {
+            Word::Var(variable) => Word::ReadOnly(variable),
+            other => other,
+        }
+    }
+
     /// An argument of a clause's head as a word over the clause's variables.
     pub fn of_head(vars: u8, term: &Term) -> Word
         requires { IsFlat vars term.now }
