@@ -1,0 +1,13 @@
+pub mod Bytes
+pub mod Marks
+pub mod Numbers
+pub mod QuotedStrings
+pub mod Pieces
+pub mod Tokens
+pub mod TokenLaws
+pub mod SourceTerms
+pub mod SourceExpressions
+pub mod SourceItems
+pub mod SourceClauses
+pub mod Quotes
+pub mod Writing

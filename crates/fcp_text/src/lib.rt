@@ -1,0 +1,25 @@
+//! Texts of Flat Concurrent Prolog: their tokens, and terms, clauses and modules as texts again.
+#![tactic(auto)]
+
+mod bytes;
+mod laws;
+mod lexer;
+mod marks;
+mod numbers;
+mod pieces;
+mod quotes;
+#[cfg(test)]
+mod tests;
+mod write_bytes;
+mod write_clauses;
+mod write_expressions;
+mod write_items;
+mod write_terms;
+#[cfg(test)]
+mod write_tests;
+
+pub use laws::{tokens_are_few, tokens_are_spelled_well, tokens_stand_in_order};
+pub use lexer::{Token, tokens};
+pub use pieces::Kind;
+pub use write_clauses::{write_clause, write_module};
+pub use write_terms::write_term;

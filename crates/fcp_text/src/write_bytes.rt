@@ -1,0 +1,117 @@
+ghost use Rattle.std.specs.Prelude.{decimal, ◌++◌, codes};
+ghost use Rattle.std.specs.Fmt.{signed_decimal};
+ghost use Rattle.fcp_model.specs.Spelling.{doubled, string_text, is_name, is_word_byte, name_at};
+ghost use Rattle.std.specs.List.{list_all, position};
+ghost use Rattle.std.specs.Prelude.{◌≡◌};
+ghost use Rattle.fcp_text.specs.Writing.{IsWritten};
+ghost use Rattle.fcp_text.specs.Quotes.{is_quote};
+
+use fcp_model::{Names, Sym};
+use itoa::Buffer;
+use logix_edge::{Put, Sink, SinkFailed};
+
+/// Puts a piece.
+pub(crate) fn put<K: Sink>(sink: &mut K, piece: &[u8]) -> Result<(), SinkFailed>
+    ensures { IsWritten (K.written sink.old) (K.written sink.new) (K.faults sink.old) (K.faults sink.new) piece.now result }
+{
+    match sink.put(piece) {
+        Put::Done => Ok(()),
+        Put::Failed => Err(SinkFailed),
+    }
+}
+
+/// Puts a number that is not negative, in decimal.
+pub(crate) fn write_count<K: Sink>(count: u32, sink: &mut K) -> Result<(), SinkFailed>
+    ensures { IsWritten (K.written sink.old) (K.written sink.new) (K.faults sink.old) (K.faults sink.new) (decimal count) result }
+{
+    put(sink, Buffer::new().format(count).as_bytes())
+}
+
+/// Puts a number in decimal, with `-` where it is negative.
+pub(crate) fn write_number<K: Sink>(number: i64, sink: &mut K) -> Result<(), SinkFailed>
+    ensures { IsWritten (K.written sink.old) (K.written sink.new) (K.faults sink.old) (K.faults sink.new) (signed_decimal number) result }
+{
+    put(sink, Buffer::new().format(number).as_bytes())
+}
+
+/// Puts a writable occurrence of a variable.
+pub(crate) fn write_variable<K: Sink>(variable: u8, sink: &mut K) -> Result<(), SinkFailed>
+    ensures { IsWritten (K.written sink.old) (K.written sink.new) (K.faults sink.old) (K.faults sink.new)
+        (codes "V" ++ decimal variable) result }
+{
+    put(sink, b"V")?;
+    write_count(variable as u32, sink)
+}
+
+/// Puts a read-only occurrence of a variable.
+pub(crate) fn write_read_only<K: Sink>(variable: u8, sink: &mut K) -> Result<(), SinkFailed>
+    ensures { IsWritten (K.written sink.old) (K.written sink.new) (K.faults sink.old) (K.faults sink.new)
+        (codes "V" ++ decimal variable ++ codes "?") result }
+{
+    put(sink, b"V")?;
+    write_count(variable as u32, sink)?;
+    put(sink, b"?")
+}
+
+/// Puts a string's number's string: as it is where it has the form of a name, and else between quotes. A number that the
+/// list lacks has the empty string.
+pub(crate) fn write_string<K: Sink>(
+    names: &Names,
+    string: Sym,
+    sink: &mut K,
+) -> Result<(), SinkFailed>
+    ensures { IsWritten (K.written sink.old) (K.written sink.new) (K.faults sink.old) (K.faults sink.new)
+        (string_text (name_at names.now string.0)) result }
+{
+    let bytes = names.get(string).unwrap_or("").as_bytes();
+    if is_name(bytes) {
+        return put(sink, bytes);
+    }
+    put(sink, b"'")?;
+    write_doubled(bytes, sink)?;
+    put(sink, b"'")
+}
+
+/// Puts bytes with each quote twice.
+fn write_doubled<K: Sink>(bytes: &[u8], sink: &mut K) -> Result<(), SinkFailed>
+    ensures { IsWritten (K.written sink.old) (K.written sink.new) (K.faults sink.old) (K.faults sink.new) (doubled bytes.now) result }
+{
+    let mut rest = bytes;
+    while let Some(at) = first_quote(rest) {
+        put(sink, &rest[..at + 1])?;
+        put(sink, b"'")?;
+        rest = &rest[at + 1..];
+    }
+    put(sink, rest)
+}
+
+/// The position of the first quote.
+fn first_quote(bytes: &[u8]) -> Option<usize>
+    ensures { result ≡ position is_quote bytes.now }
+{
+    bytes.iter().position(|byte| *byte == b'\'')
+}
+
+/// Whether a string has the form of a name: a lower-case letter, then letters, digits and `_`.
+fn is_name(string: &[u8]) -> bool
+    ensures { result ≡ is_name string.now }
+{
+    match string.first() {
+        None => false,
+        Some(first) => first.is_ascii_lowercase() && are_word_bytes(string),
+    }
+}
+
+/// Whether there are letters, digits and `_` alone.
+fn are_word_bytes(string: &[u8]) -> bool
+    ensures { result ≡ list_all is_word_byte string.now }
+{
+    string.iter().all(|byte| is_word_byte(*byte))
+}
+
+/// A letter, a digit or `_`.
+fn is_word_byte(byte: u8) -> bool
+    ensures { result ≡ is_word_byte byte }
+{
+    byte.is_ascii_alphanumeric() || byte == b'_'
+}

@@ -1,0 +1,139 @@
+ghost use Rattle.std.specs.Prelude.{codes, drop, ◌++◌};
+ghost use Rattle.fcp_text.specs.SourceTerms.{term_text};
+ghost use Rattle.fcp_text.specs.SourceExpressions.{expr_text};
+ghost use Rattle.fcp_text.specs.SourceItems.{comparison_text, call_text, arguments_text, named_text, item_text, items_text};
+ghost use Rattle.fcp_text.specs.Writing.{IsWritten};
+
+use crate::write_bytes::{put, write_string};
+use crate::write_expressions::{comparison_sign, write_expression};
+use crate::write_terms::{write_parts, write_term};
+use fcp_model::{Call, CompareOp, Expr, Item, Names, Sym, Term};
+use logix_edge::{Sink, SinkFailed};
+
+/// Puts a name with its arguments.
+pub(crate) fn write_named<K: Sink>(
+    names: &Names,
+    name: Sym,
+    arguments: &[Term],
+    sink: &mut K,
+) -> Result<(), SinkFailed>
+    ensures { IsWritten (K.written sink.old) (K.written sink.new) (K.faults sink.old) (K.faults sink.new)
+        (named_text names.now name arguments.now) result }
+{
+    write_string(names, name, sink)?;
+    write_arguments(names, arguments, sink)
+}
+
+/// Puts arguments in parentheses, and where there are none, nothing.
+fn write_arguments<K: Sink>(
+    names: &Names,
+    arguments: &[Term],
+    sink: &mut K,
+) -> Result<(), SinkFailed>
+    ensures { IsWritten (K.written sink.old) (K.written sink.new) (K.faults sink.old) (K.faults sink.new)
+        (arguments_text names.now arguments.now) result }
+{
+    if arguments.is_empty() {
+        return Ok(());
+    }
+    put(sink, b"(")?;
+    write_parts(names, arguments, 0, sink)?;
+    put(sink, b")")
+}
+
+/// Puts two terms with a sign between them.
+fn write_between<K: Sink>(
+    names: &Names,
+    left: &Term,
+    sign: &[u8],
+    right: &Term,
+    sink: &mut K,
+) -> Result<(), SinkFailed>
+    ensures { IsWritten (K.written sink.old) (K.written sink.new) (K.faults sink.old) (K.faults sink.new)
+        (term_text names.now left.now ++ (sign.now ++ term_text names.now right.now)) result }
+{
+    write_term(names, left, sink)?;
+    put(sink, sign)?;
+    write_term(names, right, sink)
+}
+
+/// Puts an assignment.
+fn write_assignment<K: Sink>(
+    names: &Names,
+    left: &Term,
+    right: &Expr,
+    sink: &mut K,
+) -> Result<(), SinkFailed>
+    ensures { IsWritten (K.written sink.old) (K.written sink.new) (K.faults sink.old) (K.faults sink.new)
+        (term_text names.now left.now ++ (codes " := " ++ expr_text names.now right.now)) result }
+{
+    write_term(names, left, sink)?;
+    put(sink, b" := ")?;
+    write_expression(names, right, sink)
+}
+
+/// Puts a comparison of two expressions.
+fn write_comparison<K: Sink>(
+    names: &Names,
+    comparison: CompareOp,
+    left: &Expr,
+    right: &Expr,
+    sink: &mut K,
+) -> Result<(), SinkFailed>
+    ensures { IsWritten (K.written sink.old) (K.written sink.new) (K.faults sink.old) (K.faults sink.new)
+        (expr_text names.now left.now ++ (comparison_text comparison ++ expr_text names.now right.now)) result }
+{
+    write_expression(names, left, sink)?;
+    put(sink, comparison_sign(comparison))?;
+    write_expression(names, right, sink)
+}
+
+/// Puts an item.
+fn write_item<K: Sink>(names: &Names, item: &Item, sink: &mut K) -> Result<(), SinkFailed>
+    ensures { IsWritten (K.written sink.old) (K.written sink.new) (K.faults sink.old) (K.faults sink.new)
+        (item_text names.now item.now) result }
+{
+    write_call(names, &item.call, sink)
+}
+
+/// Puts what an item says.
+fn write_call<K: Sink>(names: &Names, call: &Call, sink: &mut K) -> Result<(), SinkFailed>
+    ensures { IsWritten (K.written sink.old) (K.written sink.new) (K.faults sink.old) (K.faults sink.new)
+        (call_text names.now call.now) result }
+{
+    match call {
+        Call::User { name, args } => write_named(names, *name, args.as_slice(), sink),
+        Call::Unify(left, right) => write_between(names, left, b" = ", right, sink),
+        Call::Assign(left, right) => write_assignment(names, left, right, sink),
+        Call::Same(left, right) => write_between(names, left, b" == ", right, sink),
+        Call::NotSame(left, right) => write_between(names, left, b" \\== ", right, sink),
+        Call::Compare(comparison, left, right) => write_comparison(
+            names,
+            *comparison,
+            left,
+            right,
+            sink,
+        ),
+    }
+}
+
+/// Puts the items from a position on, with a comma and a space between them.
+pub(crate) fn write_items<K: Sink>(
+    names: &Names,
+    items: &[Item],
+    from: usize,
+    sink: &mut K,
+) -> Result<(), SinkFailed>
+    ensures { IsWritten (K.written sink.old) (K.written sink.new) (K.faults sink.old) (K.faults sink.new)
+        (items_text names.now (drop from items.now)) result }
+{
+    if from >= items.len() {
+        return Ok(());
+    }
+    write_item(names, &items[from], sink)?;
+    for at in from + 1..items.len() {
+        put(sink, b", ")?;
+        write_item(names, &items[at], sink)?;
+    }
+    Ok(())
+}
