@@ -1,0 +1,95 @@
+-- Not believed, for the machine alone: reading a term, and what one more word does.
+use Rattle.std.specs.Prelude.{ℕ, List, [], ◌∷◌, ◌++◌, Bool, true, false, nat_lt, ◌||◌, ◌&&◌}
+use Rattle.fcp_model.specs.declared.term.Term.{Term}
+use Rattle.fcp_model.specs.declared.term.Term.TheVariants as T
+use Rattle.fcp_grammar.specs.declared.words.Word.{Word}
+use Rattle.fcp_grammar.specs.declared.words.Word.TheVariants as W
+use Rattle.fcp_grammar.specs.declared.terms.Frame.{Frame}
+use Rattle.fcp_grammar.specs.declared.terms.Frame.TheVariants as F
+use Rattle.fcp_grammar.specs.declared.terms.Phase.{Phase}
+use Rattle.fcp_grammar.specs.declared.terms.Phase.TheVariants as P
+use Rattle.fcp_grammar.specs.declared.terms.TermAt.{TermAt}
+use Rattle.fcp_grammar.specs.declared.terms.Told.{Told}
+use Rattle.fcp_grammar.specs.declared.terms.Told.TheVariants.{Read, Whole, Refused}
+use Rattle.fcp_grammar.specs.Values.{listed, tuple_of, is_empty}
+pub use Rattle.fcp_grammar.specs.Values.{over}
+
+abbrev pub reads : List Frame → Phase → Told
+reads stack phase = Read (record { stack = stack; phase = phase })
+
+unfoldable pub begin : List Frame → Word → Told
+begin stack (W.Int n at) = reads stack (P.Have at (T.Int n))
+begin stack (W.Str s form at) = reads stack (P.Named at s)
+begin stack (W.Var k at) = reads stack (P.Variable at k)
+begin stack (W.SquareOpen at) = reads stack (P.Opened at)
+begin stack (W.CurlyOpen at) = reads (F.Braces at [] ∷ stack) P.Want
+begin stack _ = Refused
+
+unfoldable pub term_of : Phase → Term
+term_of (P.Named at s) = T.Str s
+term_of (P.Called at s ts) = tuple_of s ts
+term_of (P.Variable at k) = T.Var k
+term_of (P.Have at t) = t
+term_of _ = T.Nil
+
+unfoldable pub in_frame : Frame → List Frame → Term → Word → Told
+in_frame (F.Call at s done) stack t W.Comma = reads (F.Call at s (done ++ t ∷ []) ∷ stack) P.Want
+in_frame (F.Call at s done) stack t W.RoundClose = reads stack (P.Called at s (done ++ t ∷ []))
+in_frame (F.List at done) stack t W.Comma = reads (F.List at (done ++ t ∷ []) ∷ stack) P.Want
+in_frame (F.List at done) stack t W.Bar = reads (F.Rest at (done ++ t ∷ []) ∷ stack) P.Want
+in_frame (F.List at done) stack t W.SquareClose = reads stack (P.Have at (listed (done ++ t ∷ []) T.Nil))
+in_frame (F.Rest at done) stack t W.SquareClose = reads stack (P.Have at (listed done t))
+in_frame (F.Braces at done) stack t W.Comma = reads (F.Braces at (done ++ t ∷ []) ∷ stack) P.Want
+in_frame (F.Braces at done) stack t W.CurlyClose = reads stack (P.Have at (T.Tuple (done ++ t ∷ [])))
+in_frame _ stack t _ = Refused
+
+unfoldable pub behind : List Frame → Phase → Word → Told
+behind [] phase word = Whole phase
+behind (frame ∷ stack) phase word = in_frame frame stack (term_of phase) word
+
+unfoldable pub step_by : List Frame → Phase → Word → Told
+step_by stack P.Want word = begin stack word
+step_by stack (P.Opened at) W.SquareClose = reads stack (P.Have at T.Nil)
+step_by stack (P.Opened at) word = begin (F.List at [] ∷ stack) word
+step_by stack (P.Named at s) (W.RoundOpen _) = reads (F.Call at s [] ∷ stack) P.Want
+step_by stack (P.Variable at k) W.Question = reads stack (P.Have at (T.Ro k))
+step_by stack phase word = behind stack phase word
+
+abbrev pub step : TermAt → Word → Told
+step at word = step_by at.stack at.phase word
+
+-- ---- what is one too many
+
+-- the next term is one too many; `outside` says so of a term in no bracket
+unfoldable pub full : Bool → List Frame → Bool
+full outside [] = outside
+full outside (F.Call at s done ∷ stack) = over done
+full outside (F.Braces at done ∷ stack) = over done
+full outside (_ ∷ stack) = false
+
+abbrev pub is_wanted : Phase → Bool
+is_wanted P.Want = true
+is_wanted _ = false
+
+-- a variable past the last is one too many too
+abbrev pub large_by : Bool → Word → Bool
+large_by m (W.Var k at) = m || nat_lt 250 k
+large_by m _ = m
+
+unfoldable pub is_large : Bool → TermAt → Word → Bool
+is_large outside at word = large_by (is_wanted at.phase && full outside at.stack) word
+
+abbrev pub place_of : Phase → ℕ
+place_of P.Want = 0
+place_of (P.Opened at) = at
+place_of (P.Named at s) = at
+place_of (P.Called at s ts) = at
+place_of (P.Variable at k) = at
+place_of (P.Have at t) = at
+
+abbrev pub start : TermAt
+start = record { stack = []; phase = P.Want }
+
+abbrev pub opens_group : TermAt → Word → Bool
+opens_group at (W.RoundOpen o) = is_wanted at.phase && is_empty at.stack
+opens_group at _ = false

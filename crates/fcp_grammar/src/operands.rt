@@ -1,0 +1,154 @@
+//! The word behind an operand.
+ghost use Rattle.std.specs.Prelude.{◌≡◌, IfOk};
+ghost use Rattle.fcp_grammar.specs.Operands as spec;
+
+use crate::expressions::{before, nothing, whole};
+use crate::items::{LeftSide, Side, Sums, Turn};
+use crate::terms::start;
+use crate::words::{StringForm, Word};
+use fcp_model::{ArithOp, Call, CompareOp, Expr, Item, NoMemory};
+use std::alloc::Global;
+
+const MOST_OPERATORS: u32 = 256;
+
+fn more(count: u32) -> u32
+    ensures { result ≡ spec.more count }
+{
+    if count < 257 { count + 1 } else { count }
+}
+
+fn behind_operator(
+    alloc: Global,
+    sums: Sums,
+    operator: ArithOp,
+    operand: Expr,
+) -> Result<Turn, NoMemory>
+    ensures { IfOk result (λ r. r ≡ spec.behind_operator sums operator operand) }
+{
+    let Sums {
+        at,
+        left,
+        groups,
+        level,
+        operators,
+    } = sums;
+    let next = Sums {
+        at,
+        left,
+        groups,
+        level: before(alloc, level, operator, operand)?,
+        operators: more(operators),
+    };
+    Ok(Turn::Goes(Side::Sum(next, start(alloc)), operators >= MOST_OPERATORS))
+}
+
+/// Behind the `)` the parenthesis is an operand of what stood before it.
+fn behind_close(alloc: Global, sums: Sums, operand: Expr) -> Result<Turn, NoMemory>
+    ensures { IfOk result (λ r. r ≡ spec.behind_close sums operand) }
+{
+    let Sums {
+        at,
+        left,
+        mut groups,
+        level,
+        operators,
+    } = sums;
+    match groups.pop() {
+        None => Ok(Turn::Refused),
+        Some(outer) => {
+            let inner = whole(alloc, level, operand)?;
+            let next = Sums {
+                at,
+                left,
+                groups,
+                level: outer,
+                operators,
+            };
+            Ok(Turn::Goes(Side::Closed(next, inner), false))
+        }
+    }
+}
+
+/// An item has one comparison, and none behind a `:=`.
+fn behind_comparison(
+    alloc: Global,
+    sums: Sums,
+    comparison: CompareOp,
+    operand: Expr,
+) -> Result<Turn, NoMemory>
+    ensures { IfOk result (λ r. r ≡ spec.behind_comparison sums comparison operand) }
+{
+    let Sums {
+        at,
+        left,
+        groups,
+        level,
+        operators,
+    } = sums;
+    if !groups.is_empty() {
+        return Ok(Turn::Refused);
+    }
+    match left {
+        LeftSide::Nothing => {
+            let next = Sums {
+                at,
+                left: LeftSide::Compared(whole(alloc, level, operand)?, comparison),
+                groups,
+                level: nothing(),
+                operators,
+            };
+            Ok(Turn::Goes(Side::Sum(next, start(alloc)), false))
+        }
+        LeftSide::Compared(_, _) | LeftSide::Assigned(_) => Ok(Turn::Refused),
+    }
+}
+
+/// An expression alone is no item.
+fn behind_item(alloc: Global, sums: Sums, operand: Expr) -> Result<Turn, NoMemory>
+    ensures { IfOk result (λ r. r ≡ spec.behind_item sums operand) }
+{
+    let Sums {
+        at,
+        left,
+        groups,
+        level,
+        operators: _,
+    } = sums;
+    if !groups.is_empty() {
+        return Ok(Turn::Refused);
+    }
+    match left {
+        LeftSide::Nothing => Ok(Turn::Refused),
+        LeftSide::Compared(left, comparison) => Ok(Turn::Ends(Item {
+            at,
+            call: Call::Compare(comparison, left, whole(alloc, level, operand)?),
+        })),
+        LeftSide::Assigned(left) => Ok(Turn::Ends(Item {
+            at,
+            call: Call::Assign(left, whole(alloc, level, operand)?),
+        })),
+    }
+}
+
+/// The word behind an operand, as far as nothing but operands may stand there.
+#[tactic(auto, unfolding(crate::specs::Operands::behind_operand))]
+pub fn behind_operand(
+    alloc: Global,
+    sums: Sums,
+    operand: Expr,
+    word: Word,
+) -> Result<Turn, NoMemory>
+    ensures { IfOk result (λ r. r ≡ spec.behind_operand sums operand word) }
+{
+    match word {
+        Word::Operator(operator, _) => match operator {
+            ArithOp::Mod => Ok(Turn::Refused),
+            _ => behind_operator(alloc, sums, operator, operand),
+        },
+        Word::Str(_, StringForm::Mod, _) => behind_operator(alloc, sums, ArithOp::Mod, operand),
+        Word::RoundClose => behind_close(alloc, sums, operand),
+        Word::Compare(comparison) => behind_comparison(alloc, sums, comparison, operand),
+        Word::Comma | Word::Bar | Word::Dot(_) => behind_item(alloc, sums, operand),
+        _ => Ok(Turn::Refused),
+    }
+}
