@@ -1,0 +1,4 @@
+pub mod FirstFaults
+pub mod FirstPlaces
+pub mod HiddenCalls
+pub mod LeafPlaces

@@ -1,0 +1,6 @@
+pub mod Checks
+pub mod Faults
+pub mod Firsts
+pub mod Leaves
+pub mod Loading
+pub mod TestItems

@@ -1,0 +1,13 @@
+//! Loads modules and goals of Flat Concurrent Prolog that were read: finds their faults beyond the grammar, and numbers
+//! their procedures.
+#![tactic(auto)]
+
+mod calls;
+mod checks;
+mod guards;
+mod leaves;
+mod loading;
+#[cfg(test)]
+mod tests;
+
+pub use loading::{load, load_goal};

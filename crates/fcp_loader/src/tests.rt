@@ -1,0 +1,4 @@
+mod build;
+mod goals;
+mod kinds;
+mod order;
