@@ -1,75 +1,193 @@
--- What a text is, by its words.
-use Rattle.std.proofs.Common.{◌≡◌, List, ap, ◌∙◌, sym, Option, Some, None}
-use Rattle.fcp_model.specs.declared.source.Item.{Item}
-use Rattle.fcp_model.specs.declared.source.Clause.{Clause}
-use Rattle.fcp_reader.specs.declared.variables.Form.{Form}
-use Rattle.fcp_reader.specs.declared.variables.Form.TheVariants as form
-use Rattle.fcp_reader.specs.declared.words.Word.{Word}
-use Rattle.fcp_reader.specs.Pieces.{Text}
-use Rattle.fcp_reader.specs.Words.{Env, words_of, names_behind}
-use Rattle.fcp_reader.specs.Clauses.{clauses_of}
-use Rattle.fcp_reader.specs.Goals.{items_of}
-use Rattle.fcp_reader.specs.Grammar.{clauses_value, spell_module, goal_items, spell_goal}
-use Rattle.fcp_reader.specs.Texts.{IsModule, HasNoModule, module_of, IsGoal, HasNoGoal, goal_of, OneModule, OneGoal}
-use Rattle.fcp_reader.proofs.Follow.{clauses_of-spell, items_of-spell}
-use Rattle.fcp_reader.proofs.Sound.{Spelled, clauses_of-tree, SpelledGoal, items_of-tree}
+-- What a step of a machine says of the words.
+use Rattle.std.proofs.Common.{◌≡◌, ◌<◌, ◌≤◌, ◌+◌, List, [], ◌∷◌, ◌++◌, take, length, refl, ap, ◌∙◌, sym, subst, Option, Some, None, Bool, true, false, ℕ, zero, suc, append_assoc, arith, get_or}
+use Rattle.std.proofs.lemmas.Option.{slice_get-get_or}
+use Rattle.std.proofs.lemmas.List.{take_more}
+use Rattle.fcp_model.specs.declared.names.Sym.{Sym}
+use Rattle.fcp_grammar.specs.declared.words.Word.{Word}
+use Rattle.fcp_grammar.specs.declared.words.Word.TheVariants as W
+use Rattle.fcp_grammar.specs.Grammar.{Marked, plain}
+use Rattle.fcp_reader.specs.Faults.{unmarked, Begins, Large, Sound, SoundBefore}
+use Rattle.fcp_reader.specs.Texts.{clean}
+use Rattle.fcp_grammar.proofs.Follow.{then, follow}
+use Rattle.fcp_reader.proofs.Steps.{go, next, walk, walk-append, step-of, then-some, follow-walk, follow-front}
+use Rattle.fcp_reader.proofs.Completions.{FinishedText, Completed, CompletedBehind}
+use Rattle.fcp_reader.proofs.Machines.{Moved, GoesTo, WholeText, Machine}
 
-abbrev Read : Type 0
-Read = Option (List Word × Env)
+-- ---- words without marks
 
-pair : (ws vs : List Word) (e d : Env) → ◌≡◌ {A = Read} (Some (ws, e)) (Some (vs, d)) → (ws ≡ vs) × (e ≡ d)
-pair ws vs e d h =
-    let g : ◌≡◌ {A = List Word × Env} (ws, e) (vs, d) = cc in
-    (ap (λ p. p.0) g, ap (λ p. p.1) g)
+pub clean-more : (us : List Word) (w : Word) (rest : List Marked) → clean (us ++ w ∷ []) rest ≡ clean us (plain w ∷ rest)
+clean-more [] w rest = refl
+clean-more (u ∷ us) w rest = ap (λ ws. plain u ∷ ws) (clean-more us w rest)
 
-apart : (ws : List Word) (e : Env) → ◌≡◌ {A = Read} None (Some (ws, e)) → ⊥
-apart ws e h = cc
+pub clean-is : (us : List Word) (rest : List Marked) → clean us rest ≡ clean us [] ++ rest
+clean-is [] rest = refl
+clean-is (u ∷ us) rest = ap (λ ws. plain u ∷ ws) (clean-is us rest)
 
-pub names-behind : (f : Form) (ns : List Text) (b : Text) (ws : List Word) (e : Env) → words_of f ns b ≡ Some (ws, e) → e.names ≡ names_behind f ns b
-names-behind f ns b ws e w = sym (ap (λ o. elim o as (λ x. List Text) [ Some r ↦ r.1.names | None ↦ ns ]) w)
+pub unmarked-clean : (us : List Word) (rest : List Marked) → unmarked (clean us rest) ≡ us ++ unmarked rest
+unmarked-clean [] rest = refl
+unmarked-clean (u ∷ us) rest = ap (λ ws. u ∷ ws) (unmarked-clean us rest)
 
--- ---- modules
+pub unmarked-front : (us : List Word) → unmarked (clean us []) ≡ us
+unmarked-front [] = refl
+unmarked-front (u ∷ us) = ap (λ ws. u ∷ ws) (unmarked-front us)
 
-pub is-module : (ns : List Text) (b : Text) (ws : List Word) (e : Env) (cs : List Clause) → words_of form.Module ns b ≡ Some (ws, e) → clauses_of ws ≡ Some cs → IsModule ns b (module_of cs)
-is-module ns b ws e cs w h =
-    let t : Spelled ws cs = clauses_of-tree ws cs h in
-    record { tree = t.tree; behind = e; spelled = w ∙ ap (λ v. Some (v, e)) (sym t.words); value = ap module_of (sym t.value) }
+pub clean-split : (a b : List Word) (rest : List Marked) → clean (a ++ b) rest ≡ clean a (clean b rest)
+clean-split [] b rest = refl
+clean-split (u ∷ a) b rest = ap (λ ws. plain u ∷ ws) (clean-split a b rest)
 
-pub no-words : (ns : List Text) (b : Text) → words_of form.Module ns b ≡ None → HasNoModule ns b
-no-words ns b w m is = apart (spell_module is.tree) is.behind (sym w ∙ is.spelled)
+same-some : {A : Type 0} (s t : A) → Some s ≡ Some t → s ≡ t
+same-some s t e = cc
 
-pub no-clauses : (ns : List Text) (b : Text) (ws : List Word) (e : Env) → words_of form.Module ns b ≡ Some (ws, e) → clauses_of ws ≡ None → HasNoModule ns b
-no-clauses ns b ws e w h m is =
-    let p : spell_module is.tree ≡ ws = (pair (spell_module is.tree) ws is.behind e (sym is.spelled ∙ w)).0 in
-    let c : Some (clauses_value is.tree) ≡ None = sym (clauses_of-spell is.tree) ∙ ap clauses_of p ∙ h in
+apart : {S : Type 0} (s t : S) → ◌≡◌ {A = Option (S × Bool)} (Some (s, false)) (Some (t, true)) → ⊥
+apart {S} s t e =
+    let f : false ≡ true = ap (λ p. p.1) (same-some {A = S × Bool} (s, false) (t, true) e) in
     cc
 
-pub one_module : OneModule
-one_module ns b m n i j =
-    let p : spell_module i.tree ≡ spell_module j.tree = (pair (spell_module i.tree) (spell_module j.tree) i.behind j.behind (sym i.spelled ∙ j.spelled)).0 in
-    let c : Some (clauses_value i.tree) ≡ Some (clauses_value j.tree) = sym (clauses_of-spell i.tree) ∙ ap clauses_of p ∙ clauses_of-spell j.tree in
-    let v : clauses_value i.tree ≡ clauses_value j.tree = cc in
-    i.value ∙ ap module_of v ∙ sym j.value
+module _ {S T P V : Type 0} (M : Machine S T P V) where
+  abbrev pub walked : List Word → Option S
+  walked ws = walk M.step M.beginning ws
 
--- ---- goals
+  pub walk-text : (t : T) → walked (unmarked (M.spell t)) ≡ Some (M.ends t)
+  walk-text t = follow-walk M.step M.beginning (M.ends t) (M.spell t) (M.follows t)
 
-pub is-goal : (ns : List Text) (b : Text) (ws : List Word) (e : Env) (is : List Item) → words_of form.Goal ns b ≡ Some (ws, e) → items_of ws ≡ Some is → IsGoal ns b (goal_of is e.variables)
-is-goal ns b ws e is w h =
-    let t : SpelledGoal ws is = items_of-tree ws is h in
-    record { tree = t.tree; behind = e; spelled = w ∙ ap (λ v. Some (v, e)) (sym t.words); value = ap (λ v. goal_of v e.variables) (sym t.value) }
+  -- a word that goes on no text
+  pub not-begins : (us : List Word) (s : S) (w : Word) → walked us ≡ Some s → M.step s w ≡ None → Begins M.spell (us ++ w ∷ []) → ⊥
+  not-begins us s w e n b =
+      let f : walked ((us ++ w ∷ []) ++ b.more) ≡ Some (M.ends b.tree) = sym (ap walked b.is) ∙ walk-text b.tree in
+      let g : walked ((us ++ w ∷ []) ++ b.more) ≡ walked (us ++ (w ∷ b.more)) = ap walked (append_assoc us (w ∷ []) b.more) in
+      let h : walked (us ++ (w ∷ b.more)) ≡ None = walk-append M.step M.beginning us (w ∷ b.more) ∙ ap (λ o. then o (λ t. walk M.step t (w ∷ b.more))) e ∙ ap (λ o. then (next o) (λ t. walk M.step t b.more)) n in
+      let c : Some (M.ends b.tree) ≡ None = sym f ∙ g ∙ h in
+      cc
 
-pub no-goal-words : (ns : List Text) (b : Text) → words_of form.Goal ns b ≡ None → HasNoGoal ns b
-no-goal-words ns b w g is = apart (spell_goal is.tree) is.behind (sym w ∙ is.spelled)
+  -- the words were read, none of them as one too many, and this is the state
+  pub record Reached (us : List Word) (s : S) : Type 0 where
+    pub part : P
+    pub is : M.state_of part ≡ s
+    pub words : (rest : List Marked) → M.words_of part rest ≡ clean us rest
+    pub walked-is : walked us ≡ Some s
 
-pub no-items : (ns : List Text) (b : Text) (ws : List Word) (e : Env) → words_of form.Goal ns b ≡ Some (ws, e) → items_of ws ≡ None → HasNoGoal ns b
-no-items ns b ws e w h g is =
-    let p : spell_goal is.tree ≡ ws = (pair (spell_goal is.tree) ws is.behind e (sym is.spelled ∙ w)).0 in
-    let c : Some (goal_items is.tree) ≡ None = sym (items_of-spell is.tree) ∙ ap items_of p ∙ h in
-    cc
+  pub reached-nothing : Reached [] M.beginning
+  reached-nothing = record { part = M.none; is = M.none-state; words = λ rest. M.none-words rest; walked-is = refl }
 
-pub one_goal : OneGoal
-one_goal ns b g h i j =
-    let p : (spell_goal i.tree ≡ spell_goal j.tree) × (i.behind ≡ j.behind) = pair (spell_goal i.tree) (spell_goal j.tree) i.behind j.behind (sym i.spelled ∙ j.spelled) in
-    let c : Some (goal_items i.tree) ≡ Some (goal_items j.tree) = sym (items_of-spell i.tree) ∙ ap items_of p.0 ∙ items_of-spell j.tree in
-    let v : goal_items i.tree ≡ goal_items j.tree = cc in
-    i.value ∙ ap (λ x. goal_of x i.behind.variables) v ∙ ap (λ d. goal_of (goal_items j.tree) d.variables) p.1 ∙ sym j.value
+  moved : (us : List Word) (s t : S) (w : Word) (b : Bool) (r : Reached us s) → M.step s w ≡ Some (t, b) → Moved M.state_of M.words_of (M.words_of r.part) w t b
+  moved us s t w b r e = subst (GoesTo M.state_of M.words_of (M.words_of r.part) w) (ap (λ x. M.step x w) r.is ∙ e) (M.goes r.part w)
+
+  pub reached-more : (us : List Word) (s t : S) (w : Word) → Reached us s → M.step s w ≡ Some (t, false) → Reached (us ++ w ∷ []) t
+  reached-more us s t w r e =
+      let m : Moved M.state_of M.words_of (M.words_of r.part) w t false = moved us s t w false r e in
+      record {
+        part = m.part;
+        is = m.is;
+        words = λ rest. m.words rest ∙ r.words (plain w ∷ rest) ∙ sym (clean-more us w rest);
+        walked-is = walk-append M.step M.beginning us (w ∷ []) ∙ ap (λ o. then o (λ x. walk M.step x (w ∷ []))) r.walked-is ∙ ap (λ o. then (next o) (λ x. walk M.step x [])) e;
+      }
+
+  -- what was read can be completed
+  pub completed : (k : ℕ) (x : Sym) (us : List Word) (s : S) → Reached us s → Completed M.spell k x us
+  completed k x us s r =
+      let f : FinishedText M.spell k x (M.words_of r.part) = M.finish k x r.part in
+      record { tree = f.tree; close = f.close; completes = f.completes; spelled = sym f.words ∙ r.words f.close }
+
+  pub completed-behind : (k : ℕ) (x : Sym) (us : List Word) (s t : S) (w : Word) (b : Bool) → Reached us s → M.step s w ≡ Some (t, b) → CompletedBehind M.spell k x us w b
+  completed-behind k x us s t w b r e =
+      let m : Moved M.state_of M.words_of (M.words_of r.part) w t b = moved us s t w b r e in
+      let f : FinishedText M.spell k x (M.words_of m.part) = M.finish k x m.part in
+      record { tree = f.tree; close = f.close; completes = f.completes; spelled = sym f.words ∙ m.words f.close ∙ r.words ((w, b) ∷ f.close) }
+
+  unmarked-behind : (us : List Word) (w : Word) (b : Bool) (more : List Marked) → unmarked (clean us ((w, b) ∷ more)) ≡ (us ++ w ∷ []) ++ unmarked more
+  unmarked-behind us w b more = unmarked-clean us ((w, b) ∷ more) ∙ sym (append_assoc us (w ∷ []) (unmarked more))
+
+  pub begins : (us : List Word) (s t : S) (w : Word) (b : Bool) → Reached us s → M.step s w ≡ Some (t, b) → Begins M.spell (us ++ w ∷ [])
+  begins us s t w b r e =
+      let c : CompletedBehind M.spell 0 (record { 0 = 0 }) us w b = completed-behind 0 (record { 0 = 0 }) us s t w b r e in
+      record { tree = c.tree; more = unmarked c.close; is = ap unmarked c.spelled ∙ unmarked-behind us w b c.close }
+
+  pub large : (us : List Word) (s t : S) (w : Word) → Reached us s → M.step s w ≡ Some (t, true) → Large M.spell us w
+  large us s t w r e =
+      let c : CompletedBehind M.spell 0 (record { 0 = 0 }) us w true = completed-behind 0 (record { 0 = 0 }) us s t w true r e in
+      record { tree = c.tree; front = clean us []; more = c.close; is = c.spelled ∙ clean-is us ((w, true) ∷ c.close); words = unmarked-front us }
+
+  -- a mark is determined by the words before it
+  pub small : (us : List Word) (s t : S) (w : Word) → walked us ≡ Some s → M.step s w ≡ Some (t, false) → Large M.spell us w → ⊥
+  small us s t w r e l =
+      let f : follow (go M.step) M.beginning (l.front ++ (w, true) ∷ l.more) ≡ Some (M.ends l.tree) = sym (ap (follow (go M.step) M.beginning) l.is) ∙ M.follows l.tree in
+      let h : (x : S) × (walked (unmarked l.front) ≡ Some x) × (follow (go M.step) x ((w, true) ∷ l.more) ≡ Some (M.ends l.tree)) = follow-front M.step M.beginning (M.ends l.tree) l.front ((w, true) ∷ l.more) f in
+      let same : Some h.0 ≡ Some s = sym h.1 ∙ ap walked l.words ∙ r in
+      let k : (y : S) × (go M.step h.0 (w, true) ≡ Some y) × (follow (go M.step) y l.more ≡ Some (M.ends l.tree)) = then-some (go M.step h.0 (w, true)) (λ y. follow (go M.step) y l.more) (M.ends l.tree) h.2 in
+      let g : M.step h.0 w ≡ Some (k.0, true) = step-of (M.step h.0 w) true k.0 k.1 in
+      apart t k.0 (sym e ∙ sym (ap (λ x. M.step x w) (same-some h.0 s same)) ∙ g)
+
+  -- ---- the end
+
+  pub whole-text : (us : List Word) (s : S) (v : V) → Reached us s → M.whole s ≡ Some v → (t : T) × (M.spell t ≡ clean us []) × (M.value t ≡ v)
+  whole-text us s v r e =
+      let h : WholeText M.spell M.value (M.words_of r.part) v = M.whole-part r.part v (ap M.whole r.is ∙ e) in
+      (h.tree, h.words ∙ r.words [], h.is)
+
+  pub no-text : (us : List Word) (s : S) → walked us ≡ Some s → M.whole s ≡ None → (t : T) → unmarked (M.spell t) ≡ us → ⊥
+  no-text us s e n t is =
+      let f : Some s ≡ Some (M.ends t) = sym e ∙ sym (ap walked is) ∙ walk-text t in
+      let g : M.whole s ≡ Some (M.value t) = ap M.whole (same-some s (M.ends t) f) ∙ M.whole-ends t in
+      let c : None ≡ Some (M.value t) = sym n ∙ g in
+      cc
+
+  -- a text has one value
+  pub one-value : (a b : T) → unmarked (M.spell a) ≡ unmarked (M.spell b) → M.value a ≡ M.value b
+  one-value a b e =
+      let f : Some (M.ends a) ≡ Some (M.ends b) = sym (walk-text a) ∙ ap walked e ∙ walk-text b in
+      let g : Some (M.value a) ≡ Some (M.value b) = sym (M.whole-ends a) ∙ ap M.whole (same-some (M.ends a) (M.ends b) f) ∙ M.whole-ends b in
+      same-some (M.value a) (M.value b) g
+
+  -- ---- words with no fault before a position
+
+  pub record SomeReached (us : List Word) : Type 0 where
+    pub state : S
+    pub reached : Reached us state
+
+  read-by : (us : List Word) (s : S) (w : Word) → Reached us s → Sound M.spell us w → (t : S) (b : Bool) → M.step s w ≡ Some (t, b) → SomeReached (us ++ w ∷ [])
+  read-by us s w r sound t true e = absurd (sound.small (large us s t w r e))
+  read-by us s w r sound t false e = record { state = t; reached = reached-more us s t w r e }
+
+  pub reached-sound : (us : List Word) (s : S) (w : Word) → Reached us s → Sound M.spell us w → (o : Option (S × Bool)) → M.step s w ≡ o → SomeReached (us ++ w ∷ [])
+  reached-sound us s w r sound None e = absurd (not-begins us s w r.walked-is e sound.begins)
+  reached-sound us s w r sound (Some p) e = read-by us s w r sound p.0 p.1 e
+
+  -- words that have no fault before this position were read
+  pub reached-before : (ws : List Word) (n : ℕ) → n ≤ length ws → SoundBefore M.spell ws n → SomeReached (take n ws)
+  reached-before ws zero h sound = record { state = M.beginning; reached = reached-nothing }
+  reached-before ws (suc n) h sound =
+      let within : n < length ws = omega arith in
+      let w : Word = get_or ws n W.Other in
+      let r : SomeReached (take n ws) = reached-before ws n (omega arith) (λ k l. sound k (omega arith)) in
+      let here : Sound M.spell (take n ws) w = sound n (omega arith) w (slice_get-get_or ws n W.Other within) in
+      let e : suc n ≡ n + 1 = omega arith in
+      subst SomeReached (sym (ap (λ j. take j ws) e ∙ take_more ws n W.Other within)) (reached-sound (take n ws) r.state w r.reached here (M.step r.state w) refl)
+
+  -- Words up to a first fault can be completed, and so can they with the word there, where some text goes on so.
+  pub completed-before : (k : ℕ) (x : Sym) (ws : List Word) (n : ℕ) → n ≤ length ws → SoundBefore M.spell ws n → Completed M.spell k x (take n ws)
+  completed-before k x ws n h sound =
+      let r : SomeReached (take n ws) = reached-before ws n h sound in
+      completed k x (take n ws) r.state r.reached
+
+  behind-by : (k : ℕ) (x : Sym) (us : List Word) (s : S) (w : Word) → Reached us s → Begins M.spell (us ++ w ∷ []) → (o : Option (S × Bool)) → M.step s w ≡ o → (b : Bool) × CompletedBehind M.spell k x us w b
+  behind-by k x us s w r b None e = absurd (not-begins us s w r.walked-is e b)
+  behind-by k x us s w r b (Some p) e = (p.1, completed-behind k x us s p.0 w p.1 r e)
+
+  pub completed-at : (k : ℕ) (x : Sym) (ws : List Word) (n : ℕ) (w : Word) → n ≤ length ws → SoundBefore M.spell ws n → Begins M.spell (take n ws ++ w ∷ []) → (b : Bool) × CompletedBehind M.spell k x (take n ws) w b
+  completed-at k x ws n w h sound b =
+      let r : SomeReached (take n ws) = reached-before ws n h sound in
+      behind-by k x (take n ws) r.state w r.reached b (M.step r.state w) refl
+
+  marked-by : (k : ℕ) (x : Sym) (us : List Word) (s : S) (w : Word) → Reached us s → Large M.spell us w → (t : S) (b : Bool) → M.step s w ≡ Some (t, b) → CompletedBehind M.spell k x us w true
+  marked-by k x us s w r l t true e = completed-behind k x us s t w true r e
+  marked-by k x us s w r l t false e = absurd (small us s t w r.walked-is e l)
+
+  marked-or : (k : ℕ) (x : Sym) (us : List Word) (s : S) (w : Word) → Reached us s → Begins M.spell (us ++ w ∷ []) → Large M.spell us w → (o : Option (S × Bool)) → M.step s w ≡ o → CompletedBehind M.spell k x us w true
+  marked-or k x us s w r b l None e = absurd (not-begins us s w r.walked-is e b)
+  marked-or k x us s w r b l (Some p) e = marked-by k x us s w r l p.0 p.1 e
+
+  -- where the word there is one too many, it has the mark
+  pub marked-at : (k : ℕ) (x : Sym) (ws : List Word) (n : ℕ) (w : Word) → n ≤ length ws → SoundBefore M.spell ws n → Begins M.spell (take n ws ++ w ∷ []) → Large M.spell (take n ws) w → CompletedBehind M.spell k x (take n ws) w true
+  marked-at k x ws n w h sound b l =
+      let r : SomeReached (take n ws) = reached-before ws n h sound in
+      marked-or k x (take n ws) r.state w r.reached b l (M.step r.state w) refl

@@ -1,83 +1,81 @@
--- Reading a module: what one more word does.
-use Rattle.std.specs.Prelude.{ℕ, List, [], ◌∷◌, ◌++◌, Bool, true, false, nat_lt, nat_le, ◌&&◌, ◌||◌, ◌==◌, length, Option, Some, None, option_and_then}
+-- Not believed, for the machine alone: reading clauses, and what one more word does.
+use Rattle.std.specs.Prelude.{ℕ, List, [], ◌∷◌, ◌++◌, Bool, false, Option, Some, None}
+use Rattle.fcp_model.specs.declared.term.Term.{Term}
 use Rattle.fcp_model.specs.declared.source.Item.{Item}
-use Rattle.fcp_model.specs.declared.source.Clause.{Clause}
-use Rattle.fcp_reader.specs.declared.words.Word.{Word}
-use Rattle.fcp_reader.specs.declared.words.Word.TheVariants as W
-use Rattle.fcp_reader.specs.declared.calls.Called.{Called}
-use Rattle.fcp_reader.specs.declared.calls.CallAt.TheVariants.{Start}
-use Rattle.fcp_reader.specs.declared.calls.CallTold.{CallTold}
-use Rattle.fcp_reader.specs.declared.calls.CallTold.TheVariants as C
-use Rattle.fcp_reader.specs.declared.items.ItemsTold.{ItemsTold}
-use Rattle.fcp_reader.specs.declared.items.ItemsTold.TheVariants as I
+use Rattle.fcp_model.specs.declared.source.Module.{Module}
+use Rattle.fcp_model.specs.declared.names.Sym.{Sym}
+use Rattle.fcp_grammar.specs.declared.words.Word.{Word}
+use Rattle.fcp_grammar.specs.declared.words.Word.TheVariants as W
+use Rattle.fcp_grammar.specs.declared.terms.TermAt.{TermAt}
+use Rattle.fcp_grammar.specs.declared.terms.Told.{Told}
+use Rattle.fcp_grammar.specs.declared.terms.Told.TheVariants as R
+use Rattle.fcp_grammar.specs.declared.items.Side.{Side}
+use Rattle.fcp_grammar.specs.declared.items.Side.TheVariants.{Start}
+use Rattle.fcp_grammar.specs.declared.items.Turn.{Turn}
+use Rattle.fcp_grammar.specs.declared.items.Turn.TheVariants as N
+use Rattle.fcp_reader.specs.declared.clauses.Head.{Head}
 use Rattle.fcp_reader.specs.declared.clauses.Part.{Part}
-use Rattle.fcp_reader.specs.declared.clauses.Part.TheVariants.{Head, Body}
-use Rattle.fcp_reader.specs.declared.clauses.ClausesAt.{ClausesAt}
-use Rattle.fcp_reader.specs.Calls as calls
-use Rattle.fcp_reader.specs.Items as items
-use Rattle.fcp_reader.specs.Items.{items_at}
+use Rattle.fcp_reader.specs.declared.clauses.Part.TheVariants as Q
+use Rattle.fcp_reader.specs.declared.clauses.State.{State}
+use Rattle.fcp_grammar.specs.Terms.{over, is_large, start, term_of}
+use Rattle.fcp_grammar.specs.Terms as terms
+use Rattle.fcp_grammar.specs.Items.{step_side}
+use Rattle.fcp_grammar.specs.ItemGrammar.{over_items}
+use Rattle.fcp_reader.specs.ModuleValues.{head_of, clause_of, with_clause}
 
-abbrev pub clauses_at : List Clause → Part → ClausesAt
-clauses_at cs part = record { clauses = cs; part = part }
+abbrev pub state : Module → Part → State
+state m part = record { read = m; part = part }
 
--- `true` and `otherwise` with no argument, the other reserved names with one
-abbrev pub is_reserved_by : ℕ → ℕ → Bool
-is_reserved_by n s = (n == 0 && nat_lt s 2) || (n == 1 && nat_le 2 s && nat_lt s 9)
+-- the clause ends
+abbrev pub ended : Module → Head → Option (List Item) → List Item → ℕ → State
+ended m h guard body vars = state (with_clause m (clause_of h guard body vars)) Q.Between
 
-abbrev pub is_reserved : Called → Bool
-is_reserved h = is_reserved_by (length h.args) h.name.0
+abbrev pub goes : State → Option (State × Bool)
+goes s = Some (s, false)
 
-abbrev pub clause_of : Called → List Item → ℕ → Clause
-clause_of h body vars = record { at = h.at; head = h.name; args = h.args; guard = []; body = body; vars = vars }
+-- the word behind a head
+unfoldable pub behind_head : Module → Head → Word → Option (State × Bool)
+behind_head m h W.If = goes (state m (Q.Body h None [] Start))
+behind_head m h (W.Dot n) = goes (ended m h None [] n)
+behind_head m h _ = None
 
-abbrev pub ended : List Clause → Called → List Item → ℕ → ClausesAt
-ended cs h body vars = clauses_at (cs ++ clause_of h body vars ∷ []) (Head Start)
+-- the word behind an argument of the head
+abbrev pub behind_arg : Module → ℕ → Sym → List Term → Word → Option (State × Bool)
+behind_arg m at s done W.Comma = goes (state m (Q.Args at s done start))
+behind_arg m at s done W.RoundClose = goes (state m (Q.Called (head_of at s done)))
+behind_arg m at s done _ = None
 
-abbrev pub behind_head : List Clause → Called → Word → Option ClausesAt
-behind_head cs h W.If = Some (clauses_at cs (Body h (items_at [] Start)))
-behind_head cs h (W.Dot n) = Some (ended cs h [] n)
-behind_head cs h _ = None
+abbrev pub args_told : Module → ℕ → Sym → List Term → TermAt → Word → Told → Option (State × Bool)
+args_told m at s done x w (R.Read y) = Some (state m (Q.Args at s done y), is_large (over done) x w)
+args_told m at s done x w (R.Whole phase) = behind_arg m at s (done ++ term_of phase ∷ []) w
+args_told m at s done x w R.Refused = None
 
--- behind a head that is reserved or not
-abbrev pub behind_any_head : Bool → List Clause → Called → Word → Option ClausesAt
-behind_any_head true cs h w = None
-behind_any_head false cs h w = behind_head cs h w
+-- a word of an argument of the head
+unfoldable pub in_args : Module → ℕ → Sym → List Term → TermAt → Word → Option (State × Bool)
+in_args m at s done x w = args_told m at s done x w (terms.step x w)
 
-abbrev pub behind_body : List Clause → Called → List Item → Word → Option ClausesAt
-behind_body cs h body (W.Dot n) = Some (ended cs h body n)
-behind_body cs h body _ = None
+-- behind the `|` the items so far are the guard; there is one at most
+abbrev pub barred : Module → Head → Option (List Item) → List Item → Option (State × Bool)
+barred m h None items = goes (state m (Q.Body h (Some items) [] Start))
+barred m h (Some _) items = None
 
--- by what the word is to the head
-abbrev pub head_told : List Clause → Word → CallTold → Option ClausesAt
-head_told cs w (C.Read x) = Some (clauses_at cs (Head x))
-head_told cs w (C.Ended h) = behind_any_head (is_reserved h) cs h w
-head_told cs w C.Refused = None
+-- the word behind an item
+unfoldable pub behind_item : Module → Head → Option (List Item) → List Item → Word → Option (State × Bool)
+behind_item m h guard items W.Comma = goes (state m (Q.Body h guard items Start))
+behind_item m h guard items W.Bar = barred m h guard items
+behind_item m h guard items (W.Dot n) = goes (ended m h guard items n)
+behind_item m h guard items _ = None
 
--- by what the word is to the body
-abbrev pub body_told : List Clause → Called → Word → ItemsTold → Option ClausesAt
-body_told cs h w (I.Read x) = Some (clauses_at cs (Body h x))
-body_told cs h w (I.Ended body) = behind_body cs h body w
-body_told cs h w I.Refused = None
+abbrev pub body_turn : Module → Head → Option (List Item) → List Item → Word → Turn → Option (State × Bool)
+body_turn m h guard items w (N.Goes side mark) = Some (state m (Q.Body h guard items side), mark)
+body_turn m h guard items w (N.Ends item) = behind_item m h guard (items ++ item ∷ []) w
+body_turn m h guard items w N.Refused = None
 
-abbrev pub step_part : List Clause → Part → Word → Option ClausesAt
-step_part cs (Head x) w = head_told cs w (calls.step x w)
-step_part cs (Body h x) w = body_told cs h w (items.step x w)
+-- a word of an item
+unfoldable pub in_body : Module → Head → Option (List Item) → List Item → Side → Word → Option (State × Bool)
+in_body m h guard items side w = body_turn m h guard items w (step_side (over_items items) side w)
 
-unfoldable pub step : ClausesAt → Word → Option ClausesAt
-step s w = step_part s.clauses s.part w
-
--- one word after another
-abbrev pub walk : {S : Type 0} → (S → Word → Option S) → S → List Word → Option S
-walk next s [] = Some s
-walk next s (w ∷ ws) = option_and_then (λ t. walk next t ws) (next s w)
-
--- the clauses where a module may end
-abbrev pub whole_part : List Clause → Part → Option (List Clause)
-whole_part cs (Head Start) = Some cs
-whole_part cs _ = None
-
-abbrev pub whole : ClausesAt → Option (List Clause)
-whole s = whole_part s.clauses s.part
-
-unfoldable pub clauses_of : List Word → Option (List Clause)
-clauses_of ws = option_and_then whole (walk step (clauses_at [] (Head Start)) ws)
+-- the word behind the first string
+abbrev pub named : Module → ℕ → Sym → Word → Option (State × Bool)
+named m at s (W.RoundOpen o) = goes (state m (Q.Args at s [] start))
+named m at s w = behind_head m (head_of at s []) w

@@ -1,43 +1,40 @@
--- Reading a goal: what one more word does.
-use Rattle.std.specs.Prelude.{List, [], Option, Some, None, option_and_then}
+-- Not believed, for the machine alone: reading a goal: what one more word does, and where it may end.
+use Rattle.std.specs.Prelude.{List, [], ◌∷◌, ◌++◌, Bool, false, Option, Some, None}
 use Rattle.fcp_model.specs.declared.source.Item.{Item}
-use Rattle.fcp_reader.specs.declared.words.Word.{Word}
-use Rattle.fcp_reader.specs.declared.words.Word.TheVariants as W
-use Rattle.fcp_reader.specs.declared.calls.CallAt.{CallAt}
-use Rattle.fcp_reader.specs.declared.calls.CallAt.TheVariants.{Start, Named, Closed}
-use Rattle.fcp_reader.specs.declared.items.ItemsTold.{ItemsTold}
-use Rattle.fcp_reader.specs.declared.items.ItemsTold.TheVariants as I
+use Rattle.fcp_grammar.specs.declared.words.Word.{Word}
+use Rattle.fcp_grammar.specs.declared.words.Word.TheVariants as W
+use Rattle.fcp_grammar.specs.declared.items.Side.TheVariants.{Start}
+use Rattle.fcp_grammar.specs.declared.items.Turn.{Turn}
+use Rattle.fcp_grammar.specs.declared.items.Turn.TheVariants as N
+use Rattle.fcp_grammar.specs.Items.{step_side}
+use Rattle.fcp_grammar.specs.ItemGrammar.{over_items}
 use Rattle.fcp_reader.specs.declared.goals.GoalAt.{GoalAt}
-use Rattle.fcp_reader.specs.declared.goals.GoalAt.TheVariants.{Open, Ended}
-use Rattle.fcp_reader.specs.Calls.{called}
-use Rattle.fcp_reader.specs.Items as items
-use Rattle.fcp_reader.specs.Items.{items_at, with_call}
-use Rattle.fcp_reader.specs.Clauses.{walk}
+use Rattle.fcp_reader.specs.declared.goals.GoalAt.TheVariants.{Items, Ended}
 
-abbrev pub behind_items : List Item → Word → Option GoalAt
-behind_items is (W.Dot n) = Some (Ended is)
-behind_items is _ = None
+abbrev pub beginning : GoalAt
+beginning = Items [] Start
 
--- by what the word is to the items
-abbrev pub told : Word → ItemsTold → Option GoalAt
-told w (I.Read x) = Some (Open x)
-told w (I.Ended is) = behind_items is w
-told w I.Refused = None
+-- the word behind an item
+abbrev pub behind_item : List Item → Word → Option (GoalAt × Bool)
+behind_item items W.Comma = Some (Items items Start, false)
+behind_item items (W.Dot n) = Some (Ended items, false)
+behind_item items _ = None
 
-unfoldable pub step : GoalAt → Word → Option GoalAt
-step (Open x) w = told w (items.step x w)
-step (Ended is) w = None
+abbrev pub turned : List Item → Word → Turn → Option (GoalAt × Bool)
+turned items w (N.Goes side mark) = Some (Items items side, mark)
+turned items w (N.Ends item) = behind_item (items ++ item ∷ []) w
+turned items w N.Refused = None
 
--- the items at the end of a text with no `.`
-abbrev pub whole_items : List Item → CallAt → Option (List Item)
-whole_items is (Named at s) = Some (with_call is (called at s []))
-whole_items is (Closed c) = Some (with_call is c)
-whole_items is _ = None
+unfoldable pub step : GoalAt → Word → Option (GoalAt × Bool)
+step (Items items side) w = turned items w (step_side (over_items items) side w)
+step (Ended items) w = None
 
--- the items where a goal may end
-abbrev pub whole : GoalAt → Option (List Item)
-whole (Open x) = whole_items x.items x.call
-whole (Ended is) = Some is
+-- the items, where the last one ends here
+abbrev pub whole_by : List Item → Turn → Option (List Item)
+whole_by items (N.Ends item) = Some (items ++ item ∷ [])
+whole_by items _ = None
 
-unfoldable pub items_of : List Word → Option (List Item)
-items_of ws = option_and_then whole (walk step (Open (items_at [] Start)) ws)
+-- the goal's items, where the words may end here: where a `.` might stand, and behind it
+unfoldable pub whole : GoalAt → Option (List Item)
+whole (Items items side) = whole_by items (step_side (over_items items) side (W.Dot 0))
+whole (Ended items) = Some items

@@ -1,44 +1,40 @@
--- What a text is as a module, and as a goal. The strings before it are numbered already.
-use Rattle.std.specs.Prelude.{◌≡◌, List, map, Some, None}
-use Rattle.fcp_model.specs.declared.source.Clause.{Clause}
+-- Believed: what words are as a module or a goal, and what reading them answers.
+use Rattle.std.specs.Prelude.{◌≡◌, ℕ, List, [], ◌∷◌, take, Some, Result, Ok, Err, slice_get}
 use Rattle.fcp_model.specs.declared.source.Item.{Item}
 use Rattle.fcp_model.specs.declared.source.Module.{Module}
-use Rattle.fcp_model.specs.declared.source.GoalText.{GoalText}
-use Rattle.fcp_reader.specs.declared.variables.Form.TheVariants as form
-use Rattle.fcp_reader.specs.declared.variables.Variable.{Variable}
-use Rattle.fcp_reader.specs.Pieces.{Text}
-use Rattle.fcp_reader.specs.Words.{Env, words_of}
-use Rattle.fcp_reader.specs.Grammar.{ModuleTree, clauses_value, spell_module, GoalTree, goal_items, spell_goal}
+use Rattle.fcp_grammar.specs.declared.words.Word.{Word}
+use Rattle.fcp_reader.specs.declared.reading.Stopped.{Stopped}
+use Rattle.fcp_reader.specs.declared.reading.Stopped.TheVariants.{NoMemory, Fault}
+use Rattle.fcp_grammar.specs.Grammar.{Marked, plain}
+use Rattle.fcp_reader.specs.ModuleGrammar.{module_value, spell_module_text}
+use Rattle.fcp_reader.specs.GoalGrammar.{goal_value, spell_goal_text}
+use Rattle.fcp_reader.specs.Faults.{Deep, IsFirstFault}
 
-abbrev pub module_of : List Clause → Module
-module_of cs = record { name = None; again = None; other = None; exports = None; clauses = cs }
+-- the words, none of them marked, and then the rest
+abbrev pub clean : List Word → List Marked → List Marked
+clean [] rest = rest
+clean (w ∷ ws) rest = plain w ∷ clean ws rest
 
-abbrev pub goal_of : List Item → List Variable → GoalText
-goal_of is vs = record { items = is; names = map (λ v. v.name) vs }
+-- The words are a text with this value, in which no word is one too many and no bracket is too deep.
+pub record Are {T V : Type 0} (spell : T → List Marked) (value_of : T → V) (ws : List Word) (v : V) : Type 0 where
+  pub tree : T
+  pub spelled : spell tree ≡ clean ws []
+  pub shallow : (k : ℕ) (w : Word) → slice_get ws k ≡ Some w → Deep (take k ws) w → ⊥
+  pub value : value_of tree ≡ v
 
--- the text's words are those of a tree of the grammar, and the module is its value
-pub record IsModule (names : List Text) (bytes : Text) (m : Module) : Type 0 where
-  pub tree : ModuleTree
-  pub behind : Env
-  pub spelled : words_of form.Module names bytes ≡ Some (spell_module tree, behind)
-  pub value : m ≡ module_of (clauses_value tree)
+abbrev pub AreModule : List Word → Module → Type 0
+AreModule ws m = Are spell_module_text module_value ws m
 
-abbrev pub HasNoModule : List Text → Text → Type 0
-HasNoModule names bytes = (m : Module) → IsModule names bytes m → ⊥
+abbrev pub AreGoal : List Word → List Item → Type 0
+AreGoal ws items = Are spell_goal_text goal_value ws items
 
--- the text's words are those of a tree of the grammar, and the goal is its value
-pub record IsGoal (names : List Text) (bytes : Text) (g : GoalText) : Type 0 where
-  pub tree : GoalTree
-  pub behind : Env
-  pub spelled : words_of form.Goal names bytes ≡ Some (spell_goal tree, behind)
-  pub value : g ≡ goal_of (goal_items tree) behind.variables
+-- the value or the first fault; want of memory says nothing
+abbrev pub ReadsModule : List Word → Result Module Stopped → Type 0
+ReadsModule ws (Ok m) = AreModule ws m
+ReadsModule ws (Err NoMemory) = Unit {0}
+ReadsModule ws (Err (Fault c n)) = IsFirstFault spell_module_text ws c n
 
-abbrev pub HasNoGoal : List Text → Text → Type 0
-HasNoGoal names bytes = (g : GoalText) → IsGoal names bytes g → ⊥
-
--- a text has at most one module, and at most one goal
-abbrev pub OneModule : Type 0
-OneModule = (names : List Text) (bytes : Text) (m n : Module) → IsModule names bytes m → IsModule names bytes n → m ≡ n
-
-abbrev pub OneGoal : Type 0
-OneGoal = (names : List Text) (bytes : Text) (g h : GoalText) → IsGoal names bytes g → IsGoal names bytes h → g ≡ h
+abbrev pub ReadsGoal : List Word → Result (List Item) Stopped → Type 0
+ReadsGoal ws (Ok items) = AreGoal ws items
+ReadsGoal ws (Err NoMemory) = Unit {0}
+ReadsGoal ws (Err (Fault c n)) = IsFirstFault spell_goal_text ws c n

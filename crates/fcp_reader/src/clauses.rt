@@ -1,206 +1,219 @@
-//! Reading a module.
-ghost use Rattle.std.specs.Prelude.{◌≡◌, ◌≤◌, ◌<◌, ◌^◌, length, IfOk, IfSome, MatchOption};
+//! Reading clauses, one word after another.
+ghost use Rattle.std.specs.Prelude.{◌≡◌, ◌∷◌, ◌++◌, [], IfOk};
 ghost use Rattle.fcp_reader.specs.Clauses as spec;
-ghost use Rattle.fcp_reader.specs.Words.{Grows, names_behind};
-ghost use Rattle.fcp_reader.specs.Texts.{IsModule, HasNoModule};
-ghost use Rattle.fcp_reader.specs.Plain.{IsPlainModule};
-ghost use Rattle.fcp_reader.specs.declared.variables.Form.TheVariants as form;
 
-use crate::calls::{CallAt, CallTold, Called, step as step_call};
-use crate::items::{ItemsAt, ItemsTold, step as step_items};
-use crate::rows::with;
-use crate::variables::Form;
-use crate::words::{Word, words_of};
-use fcp_model::{Clause, Item, Module, Names, NoMemory, Seq};
+use crate::attributes::AttributeAt;
+use fcp_grammar::{
+    MOST_PARTS, Side, TermAt, Told, Turn, Word, is_large, start, step as step_term, step_side,
+    term_of, with,
+};
+use fcp_model::{Clause, Item, Module, NoMemory, Seq, Sym, Term};
 use std::alloc::Global;
 
-/// How far a clause is read.
 #[derive(Drop)]
-pub enum Part {
-    Head(CallAt),
-    /// Behind the `:-`.
-    Body(Called, ItemsAt),
+pub struct Head {
+    pub at: u32,
+    pub name: Sym,
+    pub args: Seq<Term>,
 }
 
-/// How far a module is read: the clauses that are whole, and the one that is being read.
+/// How far a clause or an attribute is read.
 #[derive(Drop)]
-pub struct ClausesAt {
-    pub clauses: Seq<Clause>,
+pub enum Part {
+    /// Neither is begun.
+    Between,
+    /// An attribute, with the place of its `-`.
+    Attribute(u32, AttributeAt),
+    Named(u32, Sym),
+    Args(u32, Sym, Seq<Term>, TermAt),
+    Called(Head),
+    /// The guard, if its `|` was read, and the items so far.
+    Body(Head, Option<Seq<Item>>, Seq<Item>, Side),
+}
+
+/// How far a module is read.
+#[derive(Drop)]
+pub struct State {
+    /// The clauses and attributes that have ended.
+    pub read: Module,
     pub part: Part,
 }
 
-/// The head is a reserved name with its number of arguments.
-fn is_reserved(head: &Called) -> bool
-    ensures { result ≡ spec.is_reserved head.now }
+pub const MOST_ITEMS: usize = 256;
+
+pub fn add(items: Seq<Item>, item: Item) -> Result<Seq<Item>, NoMemory>
+    ensures { IfOk result (λ v. v ≡ items ++ item ∷ []) }
 {
-    let number = head.name.0;
-    match head.args.len() {
-        0 => number < 2,
-        1 => 2 <= number && number < 9,
-        _ => false,
+    let mut items = items;
+    match items.push(item) {
+        Ok(()) => Ok(items),
+        Err(_) => Err(NoMemory),
     }
 }
 
-/// The clauses with one more.
 fn ended(
     alloc: Global,
-    clauses: Seq<Clause>,
-    head: Called,
+    read: Module,
+    head: Head,
+    guard: Option<Seq<Item>>,
     body: Seq<Item>,
     vars: u8,
-) -> Result<ClausesAt, NoMemory>
-    ensures { IfOk result (λ s. s ≡ spec.ended clauses head body vars) }
+) -> Result<State, NoMemory>
+    ensures { IfOk result (λ s. s ≡ spec.ended read head guard body vars) }
 {
-    let Called { at, name, args } = head;
+    let guard = match guard {
+        None => Seq::empty(alloc),
+        Some(items) => items,
+    };
+    let mut read = read;
     let clause = Clause {
-        at,
-        head: name,
-        args,
-        guard: Seq::empty(alloc),
+        at: head.at,
+        head: head.name,
+        args: head.args,
+        guard,
         body,
         vars,
     };
-    Ok(ClausesAt {
-        clauses: with(clauses, clause)?,
-        part: Part::Head(CallAt::Start),
-    })
+    match read.clauses.push(clause) {
+        Ok(()) => Ok(State {
+            read,
+            part: Part::Between,
+        }),
+        Err(_) => Err(NoMemory),
+    }
 }
 
 /// The word behind a head.
-fn behind_head(
+#[tactic(auto, unfolding(crate::specs::Clauses::behind_head))]
+pub fn behind_head(
     alloc: Global,
-    clauses: Seq<Clause>,
-    head: Called,
+    read: Module,
+    head: Head,
     word: Word,
-) -> Result<Option<ClausesAt>, NoMemory>
-    ensures { IfOk result (λ o. o ≡ spec.behind_head clauses head word) }
+) -> Result<Option<(State, bool)>, NoMemory>
+    ensures { IfOk result (λ r. r ≡ spec.behind_head read head word) }
 {
     match word {
-        Word::If => {
-            let items = ItemsAt {
-                items: Seq::empty(alloc),
-                call: CallAt::Start,
-            };
-            Ok(Some(ClausesAt {
-                clauses,
-                part: Part::Body(head, items),
-            }))
-        }
-        Word::Dot(vars) => Ok(Some(ended(alloc, clauses, head, Seq::empty(alloc), vars)?)),
+        Word::If => Ok(Some((
+            State {
+                read,
+                part: Part::Body(head, None, Seq::empty(alloc), Side::Start),
+            },
+            false,
+        ))),
+        Word::Dot(vars) => Ok(Some((
+            ended(alloc, read, head, None, Seq::empty(alloc), vars)?,
+            false,
+        ))),
         _ => Ok(None),
     }
 }
 
-/// The word behind a head that may be a reserved one.
-fn behind_any_head(
+#[tactic(auto, unfolding(crate::specs::Clauses::in_args))]
+pub fn in_args(
     alloc: Global,
-    clauses: Seq<Clause>,
-    head: Called,
+    read: Module,
+    place: u32,
+    name: Sym,
+    done: Seq<Term>,
+    at: TermAt,
     word: Word,
-) -> Result<Option<ClausesAt>, NoMemory>
-    ensures { IfOk result (λ o. o ≡ spec.behind_any_head (spec.is_reserved head) clauses head word) }
+) -> Result<Option<(State, bool)>, NoMemory>
+    ensures { IfOk result (λ r. r ≡ spec.in_args read place name done at word) }
 {
-    if is_reserved(&head) {
-        Ok(None)
-    } else {
-        behind_head(alloc, clauses, head, word)
+    let large = is_large(done.len() >= MOST_PARTS, &at, word);
+    match step_term(alloc, at, word)? {
+        Told::Read(next) => Ok(Some((
+            State {
+                read,
+                part: Part::Args(place, name, done, next),
+            },
+            large,
+        ))),
+        Told::Whole(phase) => match word {
+            Word::Comma => Ok(Some((
+                State {
+                    read,
+                    part: Part::Args(place, name, with(done, term_of(phase)?)?, start(alloc)),
+                },
+                false,
+            ))),
+            Word::RoundClose => {
+                let head = Head {
+                    at: place,
+                    name,
+                    args: with(done, term_of(phase)?)?,
+                };
+                Ok(Some((
+                    State {
+                        read,
+                        part: Part::Called(head),
+                    },
+                    false,
+                )))
+            }
+            _ => Ok(None),
+        },
+        Told::Refused => Ok(None),
     }
 }
 
-/// The word behind a body.
-fn behind_body(
+/// The word behind an item.
+#[tactic(auto, unfolding(crate::specs::Clauses::behind_item))]
+fn behind_item(
     alloc: Global,
-    clauses: Seq<Clause>,
-    head: Called,
-    body: Seq<Item>,
+    read: Module,
+    head: Head,
+    guard: Option<Seq<Item>>,
+    items: Seq<Item>,
     word: Word,
-) -> Result<Option<ClausesAt>, NoMemory>
-    ensures { IfOk result (λ o. o ≡ spec.behind_body clauses head body word) }
+) -> Result<Option<(State, bool)>, NoMemory>
+    ensures { IfOk result (λ r. r ≡ spec.behind_item read head guard items word) }
 {
     match word {
-        Word::Dot(vars) => Ok(Some(ended(alloc, clauses, head, body, vars)?)),
+        Word::Comma => Ok(Some((
+            State {
+                read,
+                part: Part::Body(head, guard, items, Side::Start),
+            },
+            false,
+        ))),
+        Word::Bar => match guard {
+            None => Ok(Some((
+                State {
+                    read,
+                    part: Part::Body(head, Some(items), Seq::empty(alloc), Side::Start),
+                },
+                false,
+            ))),
+            Some(_) => Ok(None),
+        },
+        Word::Dot(vars) => Ok(Some((ended(alloc, read, head, guard, items, vars)?, false))),
         _ => Ok(None),
     }
 }
 
-/// One more word, or `None` where it goes on no module.
-#[tactic(auto, unfolding(crate::specs::Clauses::step))]
-fn step(alloc: Global, state: ClausesAt, word: Word) -> Result<Option<ClausesAt>, NoMemory>
-    ensures { IfOk result (λ o. o ≡ spec.step state word) }
-{
-    let ClausesAt { clauses, part } = state;
-    match part {
-        Part::Head(call) => match step_call(alloc, call, word)? {
-            CallTold::Read(next) => Ok(Some(ClausesAt {
-                clauses,
-                part: Part::Head(next),
-            })),
-            CallTold::Ended(head) => behind_any_head(alloc, clauses, head, word),
-            CallTold::Refused => Ok(None),
-        },
-        Part::Body(head, items) => match step_items(alloc, items, word)? {
-            ItemsTold::Read(next) => Ok(Some(ClausesAt {
-                clauses,
-                part: Part::Body(head, next),
-            })),
-            ItemsTold::Ended(body) => behind_body(alloc, clauses, head, body, word),
-            ItemsTold::Refused => Ok(None),
-        },
-    }
-}
-
-/// The clauses, or `None` where the last is not whole.
-fn whole(state: ClausesAt) -> Option<Seq<Clause>>
-    ensures { result ≡ spec.whole state }
-{
-    let ClausesAt { clauses, part } = state;
-    match part {
-        Part::Head(CallAt::Start) => Some(clauses),
-        _ => None,
-    }
-}
-
-/// The clauses that words are, or `None` where they are none.
-#[tactic(auto, unfolding(crate::specs::Clauses::clauses_of))]
-fn clauses_of(alloc: Global, words: &[Word]) -> Result<Option<Seq<Clause>>, NoMemory>
-    ensures { IfOk result (λ o. o ≡ spec.clauses_of words.now) }
-{
-    let mut state = ClausesAt {
-        clauses: Seq::empty(alloc),
-        part: Part::Head(CallAt::Start),
-    };
-    for word in words {
-        let Some(next) = step(alloc, state, *word)? else {
-            return Ok(None);
-        };
-        state = next;
-    }
-    Ok(whole(state))
-}
-
-/// The module of a text, or `None` exactly where it has none. The strings of the text are put behind those of `names`.
-pub fn read_module(
+#[tactic(auto, unfolding(crate::specs::Clauses::in_body))]
+pub fn in_body(
     alloc: Global,
-    bytes: &[u8],
-    names: &mut Names,
-) -> Result<Option<Module>, NoMemory>
-    requires { length bytes.now ≤ 1048576 }
-    ensures module { IfOk result (λ o. MatchOption o (HasNoModule names.old bytes.now) (λ m. IsModule names.old bytes.now m)) }
-    ensures noted { IfOk result (λ o. IfSome o (λ m. names.new ≡ names_behind form.Module names.old bytes.now)) }
-    ensures grows { Grows names.old names.new }
-    ensures plain { IfOk result (λ o. IfSome o (λ m. IsPlainModule m (length names.new))) }
+    read: Module,
+    head: Head,
+    guard: Option<Seq<Item>>,
+    items: Seq<Item>,
+    side: Side,
+    word: Word,
+) -> Result<Option<(State, bool)>, NoMemory>
+    ensures { IfOk result (λ r. r ≡ spec.in_body read head guard items side word) }
 {
-    let Some(read) = words_of(alloc, Form::Module, bytes, names)? else {
-        return Ok(None);
-    };
-    match clauses_of(alloc, read.words.as_slice())? {
-        None => Ok(None),
-        Some(clauses) => Ok(Some(Module {
-            name: None,
-            again: None,
-            other: None,
-            exports: None,
-            clauses,
-        })),
+    match step_side(alloc, items.len() >= MOST_ITEMS, side, word)? {
+        Turn::Goes(next, large) => Ok(Some((
+            State {
+                read,
+                part: Part::Body(head, guard, items, next),
+            },
+            large,
+        ))),
+        Turn::Ends(item) => behind_item(alloc, read, head, guard, add(items, item)?, word),
+        Turn::Refused => Ok(None),
     }
 }

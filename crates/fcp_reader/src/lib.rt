@@ -1,19 +1,15 @@
-//! Reads the texts of a small sublanguage of Flat Concurrent Prolog, the first form: modules and goals of calls whose
-//! arguments are names and variables.
+//! Reads texts as modules and goals of Flat Concurrent Prolog, or answers the first fault of their tokens or their grammar.
 #![tactic(auto)]
 
-mod calls;
+mod attributes;
 mod clauses;
 mod goals;
-mod items;
 mod laws;
-mod pieces;
-mod rows;
+mod modules;
+mod reading;
+mod sources;
 #[cfg(test)]
 mod tests;
-mod variables;
-mod words;
 
-pub use clauses::read_module;
-pub use goals::read_goal;
-pub use laws::{one_goal, one_module};
+pub use laws::{fault_is_no_goal, fault_is_no_module, one_fault, one_goal, one_module};
+pub use sources::{read_goal, read_module};

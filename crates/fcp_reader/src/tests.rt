@@ -1,278 +1,260 @@
+use crate::goals::goal_items_of;
+use crate::modules::module_of;
+use crate::reading::Stopped;
 use crate::{read_goal, read_module};
-use fcp_model::{Call, Item, Names, NoMemory, Seq, Term};
+use fcp_grammar::{StringForm, Word};
+use fcp_model::{ArithOp, Code, CompareOp, Fault, Module, Names, Refused, Sym};
 use std::alloc::Global;
 use std::fmt::Write;
 use std::test::Fail;
 
-const MOST_BYTES: usize = 1048576;
+const DASH: Word = Word::Operator(ArithOp::Sub, 7);
 
-fn is_module(alloc: Global, text: &[u8]) -> Result<bool, NoMemory> {
-    let mut names = Names::make(alloc)?;
-    if text.len() > MOST_BYTES {
-        return Ok(false);
+const SLASH: Word = Word::Operator(ArithOp::Div, 8);
+
+const MODULE: Word = Word::Str(Sym(20), StringForm::Module, 9);
+
+const EXPORT: Word = Word::Str(Sym(21), StringForm::Export, 10);
+
+const OPEN: Word = Word::RoundOpen(11);
+
+const CLOSE: Word = Word::RoundClose;
+
+const P: Word = Word::Str(Sym(30), StringForm::Name, 12);
+
+const Q: Word = Word::Str(Sym(31), StringForm::Quoted, 13);
+
+const X: Word = Word::Var(1, 14);
+
+const DOT: Word = Word::Dot(1);
+
+fn fault_of_module(alloc: Global, words: &[Word]) -> Option<(Code, usize)> {
+    match module_of(alloc, words) {
+        Err(Stopped::Fault(code, word)) => Some((code, word)),
+        _ => None,
     }
-    Ok(read_module(alloc, text, &mut names)?.is_some())
 }
 
-fn is_goal(alloc: Global, text: &[u8]) -> Result<bool, NoMemory> {
-    let mut names = Names::make(alloc)?;
-    if text.len() > MOST_BYTES {
-        return Ok(false);
+fn fault_of_goal(alloc: Global, words: &[Word]) -> Option<(Code, usize)> {
+    match goal_items_of(alloc, words) {
+        Err(Stopped::Fault(code, word)) => Some((code, word)),
+        _ => None,
     }
-    Ok(read_goal(alloc, text, &mut names)?.is_some())
 }
 
 #[test]
-fn modules_are_read(rt: HostRuntime) -> Result<(), Fail> {
-    let texts = [
-        b"".as_slice(),
-        b" \t\r\n",
-        b"% only a comment",
-        b"p.",
-        b"p.q.",
-        b"p:-q.",
-        b"p:-q,r.",
-        b"p(X):-q(X?),r(a,X).",
-        b"p ( X ? , a ) :- q .",
-        b"p(a)\n.% the end",
-        b"pQ_1(_).",
-        b"p(_x,_X?).",
-        b"true(X).",
-        b"integer.",
-        b"list(A,B).",
-        b"p:-true,list(X).",
-        b"p%:-q\n.",
-        b"p% \xc3\xa9\n.",
+fn a_module_is_read(rt: HostRuntime) -> Result<(), Fail> {
+    let words = [
+        DASH,
+        MODULE,
+        OPEN,
+        P,
+        CLOSE,
+        DOT, // -module(p).
+        DASH,
+        EXPORT,
+        OPEN,
+        Word::SquareOpen(1),
+        P,
+        SLASH,
+        Word::Int(1, 2),
+        Word::SquareClose,
+        CLOSE,
+        DOT,
+        P,
+        OPEN,
+        X,
+        CLOSE,
+        Word::If,
+        X,
+        Word::Compare(CompareOp::Less),
+        Word::Int(3, 4),
+        Word::Bar,
+        Q,
+        DOT,
+        DASH,
+        P,
+        Q,
+        OPEN,
+        X,
+        DOT, // -p 'q' ( X .
+        DASH,
+        EXPORT,
+        OPEN,
+        Word::SquareOpen(1),
+        Word::SquareClose,
+        CLOSE,
+        DOT,
+        Word::Operator(ArithOp::Sub, 40),
+        MODULE,
+        OPEN,
+        Q,
+        CLOSE,
+        DOT,
+        Q,
+        DOT,
     ];
-    for text in texts {
-        assert!(rt; is_module(rt.alloc(), text)?, "{text:?}");
-    }
+    let Ok(module) = module_of(rt.alloc(), &words) else {
+        assert!(rt; false, "a module is refused");
+        return Ok(());
+    };
+    let Module {
+        name,
+        again,
+        other,
+        exports,
+        clauses,
+    } = module;
+    assert!(rt; name == Some(Sym(30)));
+    assert!(rt; again == Some(40));
+    assert!(rt; other == Some(7));
+    assert!(rt; exports.is_some());
+    let clauses = clauses.as_slice();
+    assert!(rt; clauses.len() == 2);
+    assert!(rt; clauses[0].head == Sym(30) && clauses[0].at == 12 && clauses[0].vars == 1);
+    assert!(rt; clauses[0].args.len() == 1 && clauses[0].guard.len() == 1);
+    assert!(rt; clauses[1].head == Sym(31) && clauses[1].body.len() == 0);
     Ok(())
 }
 
 #[test]
-fn other_texts_are_no_modules(rt: HostRuntime) -> Result<(), Fail> {
-    let texts = [
-        b"p".as_slice(),
-        b".",
-        b"p:-.",
-        b"p:-q",
-        b":-q.",
-        b"p:-q,.",
-        b"p:-,q.",
-        b"p:-q r.",
-        b"p:-q,,r.",
-        b"p().",
-        b"p(a",
-        b"p(a.",
-        b"p(a,).",
-        b"p(,a).",
-        b"p(a b).",
-        b"p a.",
-        b"p a).",
-        b"p(a)).",
-        b"p((a)).",
-        b"p(a)(b).",
-        b"p(a?).",
-        b"p?.",
-        b"p(X??).",
-        b"p(?).",
-        b"P.",
-        b"_.",
-        b"p:-X.",
-        b"p(q(a)).",
-        b"p([]).",
-        b"p(1).",
-        b"1p.",
-        b"'p'.",
-        b"p:q.",
-        b"p:--q.",
-        b"p:-q:-r.",
-        b"p:-q|r.",
-        b"p..",
-        b"p,q.",
-        b"true.",
-        b"otherwise.",
-        b"true:-p.",
-        b"integer(X).",
-        b"unknown(X):-p.",
-        b"p% .",
-        b"p.\xc3\xa9",
-        b"p.\xff",
-        b"%\xff",
+fn faults_of_modules_are_found(rt: HostRuntime) -> Result<(), Fail> {
+    let rows: [(&[Word], Code, usize); 12] = [
+        (&[P], Code::Unexpected, 1),
+        (&[DOT], Code::Unexpected, 0),
+        (&[P, DOT, DOT], Code::Unexpected, 2),
+        (&[P, OPEN, CLOSE], Code::Unexpected, 2),
+        (
+            &[P, Word::If, Q, Word::Bar, Q, Word::Bar],
+            Code::Unexpected,
+            5,
+        ),
+        (&[DASH, Q, DOT], Code::Unexpected, 1),
+        (&[DASH, MODULE, OPEN, X], Code::Unexpected, 3),
+        (&[DASH, MODULE, OPEN, P, CLOSE], Code::Unexpected, 5),
+        (
+            &[
+                DASH,
+                EXPORT,
+                OPEN,
+                Word::SquareOpen(1),
+                P,
+                SLASH,
+                Word::Int(65, 2),
+            ],
+            Code::TooLarge,
+            6,
+        ),
+        (
+            &[
+                DASH,
+                EXPORT,
+                OPEN,
+                Word::SquareOpen(1),
+                P,
+                SLASH,
+                Word::Int(-1, 2),
+            ],
+            Code::TooLarge,
+            6,
+        ),
+        (
+            &[P, OPEN, Word::Var(251, 1), CLOSE, DOT, DOT],
+            Code::TooLarge,
+            2,
+        ),
+        (&[DASH, P, Word::Var(251, 1), DOT, DOT], Code::Unexpected, 4),
     ];
-    for text in texts {
-        assert!(rt; !is_module(rt.alloc(), text)?, "{text:?}");
+    for (words, code, word) in rows {
+        assert!(rt;
+            fault_of_module(rt.alloc(), words) == Some((code, word)),
+            "{words:?}"
+        );
     }
     Ok(())
 }
 
 #[test]
 fn goals_are_read(rt: HostRuntime) -> Result<(), Fail> {
-    let texts = [
-        b"p".as_slice(),
-        b"p.",
-        b"p,q",
-        b"p,q.",
-        b"p(X?),true",
-        b"integer(a) % here",
+    let rows: [(&[Word], usize); 4] = [
+        (&[P], 1),
+        (&[P, DOT], 1),
+        (&[P, OPEN, X, CLOSE, Word::Comma, X, Word::Equals, Q], 2),
+        (&[Q, Word::Comma, Q, Word::Comma, Q, DOT], 3),
     ];
-    for text in texts {
-        assert!(rt; is_goal(rt.alloc(), text)?, "{text:?}");
+    for (words, count) in rows {
+        let Ok(items) = goal_items_of(rt.alloc(), words) else {
+            assert!(rt; false, "{words:?}");
+            return Ok(());
+        };
+        assert!(rt; items.len() == count, "{words:?}");
     }
-    let others = [
-        b"".as_slice(),
-        b".",
-        b"p,",
-        b",p",
-        b"p..",
-        b"p.q",
-        b"p:-q",
-        b"p(",
-        b"X",
-        b"p q",
-        b"p\xff",
+    let faults: [(&[Word], Code, usize); 6] = [
+        (&[], Code::Unexpected, 0),
+        (&[P, Word::Comma], Code::Unexpected, 2),
+        (&[P, DOT, P], Code::Unexpected, 2),
+        (&[P, Word::Bar, Q], Code::Unexpected, 1),
+        (&[P, OPEN, Q], Code::Unexpected, 3),
+        (
+            &[X, Word::Equals, Word::Var(251, 1), Word::Var(251, 1)],
+            Code::TooLarge,
+            2,
+        ),
     ];
-    for text in others {
-        assert!(rt; !is_goal(rt.alloc(), text)?, "{text:?}");
-    }
-    Ok(())
-}
-
-/// The front, so many parts with commas between, and the end.
-fn listed(alloc: Global, front: &str, part: &str, count: usize, end: &str) -> Result<String, Fail> {
-    let mut text = String::from_str(alloc, front)?;
-    for i in 0..count {
-        if i > 0 {
-            text.push_str(",")?;
-        }
-        text.push_str(part)?;
-    }
-    text.push_str(end)?;
-    Ok(text)
-}
-
-/// A clause of so many variables.
-fn variables(alloc: Global, count: usize) -> Result<String, Fail> {
-    let mut text = String::from_str(alloc, "p:-q(a)")?;
-    for i in 0..count {
-        write!(text, ",q(V{i})")?;
-    }
-    text.push_str(".")?;
-    Ok(text)
-}
-
-#[test]
-fn limits_are_kept(rt: HostRuntime) -> Result<(), Fail> {
-    let alloc = rt.alloc();
-    let most = listed(alloc, "p(", "a", 64, ").")?;
-    let more = listed(alloc, "p(", "a", 65, ").")?;
-    assert!(rt; is_module(alloc, most.as_bytes())?);
-    assert!(rt; !is_module(alloc, more.as_bytes())?);
-    let most = listed(alloc, "p:-", "a", 256, ".")?;
-    let more = listed(alloc, "p:-", "a", 257, ".")?;
-    assert!(rt; is_module(alloc, most.as_bytes())?);
-    assert!(rt; !is_module(alloc, more.as_bytes())?);
-    let most = listed(alloc, "", "a", 256, "")?;
-    let more = listed(alloc, "", "a", 257, "")?;
-    assert!(rt; is_goal(alloc, most.as_bytes())?);
-    assert!(rt; !is_goal(alloc, more.as_bytes())?);
-    let most = variables(alloc, 250)?;
-    let more = variables(alloc, 251)?;
-    assert!(rt; is_module(alloc, most.as_bytes())?);
-    assert!(rt; !is_module(alloc, more.as_bytes())?);
-    let most = listed(alloc, "p:-", "q(_)", 250, ".")?;
-    let more = listed(alloc, "p:-", "q(_)", 251, ".")?;
-    assert!(rt; is_module(alloc, most.as_bytes())?);
-    assert!(rt; !is_module(alloc, more.as_bytes())?);
-    Ok(())
-}
-
-/// Puts the arguments behind, as `s9` for a string, `v1` for a variable and `r1` for one with a `?`.
-fn show_args(text: &mut String, args: &Seq<Term>) -> Result<(), Fail> {
-    for arg in args.as_slice() {
-        match arg {
-            Term::Str(name) => write!(text, " s{}", name.0)?,
-            Term::Var(number) => write!(text, " v{number}")?,
-            Term::Ro(number) => write!(text, " r{number}")?,
-            _ => write!(text, " other")?,
-        }
-    }
-    Ok(())
-}
-
-/// Puts the items behind, each with its place and its name's number.
-fn show_items(text: &mut String, items: &Seq<Item>) -> Result<(), Fail> {
-    for item in items.as_slice() {
-        match &item.call {
-            Call::User { name, args } => {
-                write!(text, "; {} s{}", item.at, name.0)?;
-                show_args(text, args)?;
-            }
-            _ => write!(text, "; other")?,
-        }
+    for (words, code, word) in faults {
+        assert!(rt;
+            fault_of_goal(rt.alloc(), words) == Some((code, word)),
+            "{words:?}"
+        );
     }
     Ok(())
 }
 
 #[test]
-fn a_module_has_its_value(rt: HostRuntime) -> Result<(), Fail> {
+fn limits_are_exact(rt: HostRuntime) -> Result<(), Fail> {
+    let mut deep = Vec::new(rt.alloc());
+    for _ in 0..256 {
+        deep.push(Word::CurlyOpen(1))?;
+    }
+    assert!(rt; fault_of_goal(rt.alloc(), deep.as_slice()) == Some((Code::Unexpected, 256)));
+    deep.push(Word::SquareOpen(1))?;
+    assert!(rt; fault_of_goal(rt.alloc(), deep.as_slice()) == Some((Code::TooDeep, 256)));
+    let mut many = Vec::new(rt.alloc());
+    for _ in 0..255 {
+        many.push(P)?;
+        many.push(Word::Comma)?;
+    }
+    many.push(P)?;
+    assert!(rt; goal_items_of(rt.alloc(), many.as_slice()).is_ok());
+    many.push(Word::Comma)?;
+    many.push(P)?;
+    assert!(rt; fault_of_goal(rt.alloc(), many.as_slice()) == Some((Code::TooLarge, 512)));
+    Ok(())
+}
+
+/// The names of the goal's variables are strings 11 and 13: `p` and `a` stand before them, and `q` between them.
+#[test]
+fn texts_are_read(rt: HostRuntime) -> Result<(), Fail> {
     let alloc = rt.alloc();
     let mut names = Names::make(alloc)?;
-    let bytes = b"% one\nf(X,a) :- g(X?, _), h.\nk(_Y,X,_Y?).".as_slice();
-    let read = read_module(alloc, bytes, &mut names)?;
-    let module = read.ok_or("no module")?;
-    assert!(rt; module.name.is_none() && module.again.is_none());
-    assert!(rt; module.other.is_none() && module.exports.is_none());
-    let mut text = String::new(alloc);
-    for clause in module.clauses.as_slice() {
-        write!(text, "[{} s{}", clause.at, clause.head.0)?;
-        show_args(&mut text, &clause.args)?;
-        show_items(&mut text, &clause.body)?;
-        write!(text, "; {} {}]", clause.vars, clause.guard.len())?;
-    }
-    let want = "[6 s9 v1 s10; 16 s11 r1 v2; 26 s12; 2 0][29 s13 v1 v2 r1; 2 0]";
-    assert_eq!(rt; text.as_str(), want);
-    for (number, name) in [
-        (9, "f"),
-        (10, "a"),
-        (11, "g"),
-        (12, "h"),
-        (13, "k"),
-        (14, "X"),
-    ] {
-        assert_eq!(rt; names.note(name)?.0, number, "{name}");
-    }
-    Ok(())
-}
-
-#[test]
-fn a_goal_has_its_value(rt: HostRuntime) -> Result<(), Fail> {
-    let alloc = rt.alloc();
-    let mut names = Names::make(alloc)?;
-    let bytes = b"p(Xs?,_a,b), q(Xs,_,Y,_a)".as_slice();
-    let read = read_goal(alloc, bytes, &mut names)?;
-    let goal = read.ok_or("no goal")?;
-    let mut text = String::new(alloc);
-    show_items(&mut text, &goal.items)?;
-    assert_eq!(rt; text.as_str(), "; 0 s9 r1 v2 s11; 13 s12 v1 v3 v4 v2");
-    let mut shown = String::new(alloc);
-    for name in goal.names.as_slice() {
-        match name {
-            Some(name) => write!(shown, " s{}", name.0)?,
-            None => write!(shown, " none")?,
-        }
-    }
-    assert_eq!(rt; shown.as_str(), " s10 none none s13");
-    for (number, name) in [
-        (9, "p"),
-        (10, "Xs"),
-        (11, "b"),
-        (12, "q"),
-        (13, "Y"),
-        (14, "_a"),
-    ] {
-        assert_eq!(rt; names.note(name)?.0, number, "{name}");
-    }
+    let Ok(module) = read_module(alloc, b"p(a).", &mut names) else {
+        return Err(Fail::from("a fault"));
+    };
+    assert_eq!(rt; module.clauses.len(), 1);
+    let Ok(goal) = read_goal(alloc, b"p(X), q = Y, _Z = X", &mut names) else {
+        return Err(Fail::from("a fault"));
+    };
+    assert_eq!(rt; goal.items.len(), 3);
+    assert_eq!(rt;
+        goal.names.as_slice(),
+        [Some(Sym(11)), Some(Sym(13)), None].as_slice()
+    );
+    let fault = Fault {
+        code: Code::Unexpected,
+        at: 3,
+    };
+    assert!(rt;
+        matches!(read_module(alloc, b"p(a", &mut names), Err(Refused::Fault(found)) if found == fault)
+    );
     Ok(())
 }

@@ -1,5 +1,4 @@
 pub mod Answering
 pub mod CalledItems
-pub mod Loading
+pub mod Loaded
 pub mod Pieces
-pub mod Plainness

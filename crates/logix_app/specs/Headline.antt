@@ -1,52 +1,34 @@
 -- What a call of the program answers, prints and leaves behind: the statement that the top call carries.
-use Rattle.std.specs.Prelude.{◌≡◌, ℕ, ◌<◌, ◌≤◌, ◌==◌, Bool, true, false, not, ◌&&◌, nat_le, IsTrue, List, [], ◌∷◌, length, take, Option, Some, IsSomeAnd, codes}
+use Rattle.std.specs.Prelude.{◌≡◌, ℕ, ◌<◌, ◌≤◌, true, false, List, [], length, ◌++◌, take, Option, Some, IsSomeAnd, codes, decimal}
+use Rattle.fcp_model.specs.declared.fault.Fault.{Fault}
 use Rattle.fcp_model.specs.declared.run.Limits.{Limits}
 use Rattle.fcp_model.specs.declared.run.Outcome.{Outcome}
 use Rattle.fcp_model.specs.declared.source.Module.{Module}
 use Rattle.fcp_model.specs.declared.source.GoalText.{GoalText}
-use Rattle.fcp_model.specs.FirstForm.{bodies_called, goal_called}
-use Rattle.fcp_model.specs.NameList.{reserved_names}
+use Rattle.fcp_model.specs.Codes.{code_number}
 use Rattle.fcp_model.specs.Reports.{IsReport}
 use Rattle.fcp_model.specs.Spelling.{Bytes}
 use Rattle.fcp_model.specs.Translation.{program_of, start_of}
-use Rattle.fcp_reader.specs.declared.variables.Form.TheVariants as form
-use Rattle.fcp_reader.specs.Texts.{IsModule, IsGoal}
-use Rattle.fcp_reader.specs.Words.{names_behind}
+use Rattle.fcp_text.specs.SourceClauses.{module_text}
 use Rattle.logix_edge.specs.Causes.{Rose}
 use Rattle.logix_edge.specs.Shelves.{Entries, bytes_of, Told}
 use Rattle.logix_edge.specs.Sinks.{appended}
 use Rattle.logix_app.specs.declared.status.Status.{Status}
-use Rattle.logix_app.specs.declared.status.Status.TheVariants.{Ended, Usage, Form, Shelf, TooLong, Sink, NoMemory}
+use Rattle.logix_app.specs.declared.status.Status.TheVariants as status
+use Rattle.logix_app.specs.Loading.{IsLoadedModule, IsFirstFault, AreLoaded, IsFirstGoalFault, is_runnable}
+use Rattle.logix_app.specs.Requests.{Request, run, show, file_of, IsReading, HasNoReading}
 
--- ---- what is asked: the words of the call, the file, and the texts
-
--- a FILE or a GOAL: not empty, at most 65,536 bytes, and no `-` in front
-abbrev pub is_word : Bytes → Bool
-is_word [] = false
-is_word (b ∷ bs) = not (b == 45) && nat_le (length (b ∷ bs)) 65536
-
--- the words are `run FILE GOAL`
-pub record IsReading (words : List Bytes) (file goal : Bytes) : Type 0 where
-  pub three : words ≡ codes "run" ∷ file ∷ goal ∷ []
-  pub file_word : IsTrue (is_word file)
-  pub goal_word : IsTrue (is_word goal)
-
-abbrev pub HasNoReading : List Bytes → Type 0
-HasNoReading words = (file goal : Bytes) → IsReading words file goal → ⊥
+-- ---- what is asked: the words of the call, and the file that they name
 
 -- the bytes of a file, at most 1,048,576: those under its name, where the shelf tells what it holds
 pub record IsFetched (held : Option Entries) (name bytes : Bytes) : Type 0 where
   pub within : length bytes ≤ 1048576
   pub told : Told held (λ entries. bytes_of entries name ≡ Some bytes)
 
--- The file is a module and the goal a goal of the form, and each item of a body or of the goal calls a procedure that has
--- a clause. `names` are the strings: the reserved names, then those of the file, then those of the goal.
-pub record AreRead (file goal : Bytes) (m : Module) (g : GoalText) (names : List Bytes) : Type 0 where
-  pub is_module : IsModule reserved_names file m
-  pub bodies : bodies_called m ≡ true
-  pub is_goal : IsGoal (names_behind form.Module reserved_names file) goal g
-  pub items : goal_called m g ≡ true
-  pub strings : names ≡ names_behind form.Goal (names_behind form.Module reserved_names file) goal
+-- the words ask for this, and these are the bytes of the file
+pub record IsAsked (words : List Bytes) (held : Option Entries) (r : Request) (bytes : Bytes) : Type 0 where
+  pub reading : IsReading words r
+  pub fetched : IsFetched held (file_of r) bytes
 
 -- ---- what is answered: each status with the text that it prints
 
@@ -62,6 +44,10 @@ shelf_line = codes "logix: shelf fault\n"
 abbrev pub too_long_line : Bytes
 too_long_line = codes "logix: too long\n"
 
+-- the number of a fault and its place in bytes
+abbrev pub fault_line : Bytes → Fault → Bytes
+fault_line what f = codes "logix: " ++ what ++ codes " fault " ++ decimal (code_number f.code) ++ codes " at " ++ decimal f.at ++ codes "\n"
+
 -- the most commits, moves and cells of a run
 abbrev pub default_limits : Limits
 default_limits = record { commits = 1000000; moves = 1000000; cells = 8000000 }
@@ -70,49 +56,78 @@ default_limits = record { commits = 1000000; moves = 1000000; cells = 8000000 }
 pub record Ran (words : List Bytes) (held : Option Entries) (o : Outcome) (text : Bytes) : Type 0 where
   pub file : Bytes
   pub goal : Bytes
-  pub reading : IsReading words file goal
   pub bytes : Bytes
-  pub fetched : IsFetched held file bytes
+  pub asked : IsAsked words held (run file goal) bytes
   pub m : Module
   pub g : GoalText
   pub names : List Bytes
-  pub read : AreRead bytes goal m g names
+  pub loaded : AreLoaded bytes goal m g names
+  pub runnable : is_runnable m g ≡ true
   pub report : IsReport (program_of m) (start_of m g) default_limits [] names g.names o text
 
--- the file or the goal is not in the form, or an item calls nothing
+-- the file is a module without a fault: the text is its canonical text
+pub record HasShown (words : List Bytes) (held : Option Entries) (text : Bytes) : Type 0 where
+  pub file : Bytes
+  pub bytes : Bytes
+  pub asked : IsAsked words held (show file) bytes
+  pub m : Module
+  pub names : List Bytes
+  pub loaded : IsLoadedModule bytes m names
+  pub canonical : text ≡ module_text names m
+
+-- the file has this first fault
+pub record HasModuleFault (words : List Bytes) (held : Option Entries) (f : Fault) : Type 0 where
+  pub request : Request
+  pub bytes : Bytes
+  pub asked : IsAsked words held request bytes
+  pub first : IsFirstFault bytes f
+
+-- the file has no fault, and the goal has this first one
+pub record HasGoalFault (words : List Bytes) (held : Option Entries) (f : Fault) : Type 0 where
+  pub file : Bytes
+  pub goal : Bytes
+  pub bytes : Bytes
+  pub asked : IsAsked words held (run file goal) bytes
+  pub first : IsFirstGoalFault bytes goal f
+
+-- neither has a fault, and they are not of what runs so far
 pub record IsNotInForm (words : List Bytes) (held : Option Entries) : Type 0 where
   pub file : Bytes
   pub goal : Bytes
-  pub reading : IsReading words file goal
   pub bytes : Bytes
-  pub fetched : IsFetched held file bytes
-  pub unread : (m : Module) (g : GoalText) (names : List Bytes) → AreRead bytes goal m g names → ⊥
+  pub asked : IsAsked words held (run file goal) bytes
+  pub m : Module
+  pub g : GoalText
+  pub names : List Bytes
+  pub loaded : AreLoaded bytes goal m g names
+  pub beyond : is_runnable m g ≡ false
 
 -- the shelf counted a fault of the file
 pub record IsShelfFault (words : List Bytes) (before now : ℕ) (last : Option Bytes) : Type 0 where
-  pub file : Bytes
-  pub goal : Bytes
-  pub reading : IsReading words file goal
+  pub request : Request
+  pub reading : IsReading words request
   pub rose : Rose before now
-  pub of_file : last ≡ Some file
+  pub of_file : last ≡ Some (file_of request)
 
 -- the file has more bytes than 1,048,576
 pub record IsTooLong (words : List Bytes) (held : Option Entries) : Type 0 where
-  pub file : Bytes
-  pub goal : Bytes
-  pub reading : IsReading words file goal
-  pub above : Told held (λ entries. IsSomeAnd (bytes_of entries file) (λ bytes. 1048576 < length bytes))
+  pub request : Request
+  pub reading : IsReading words request
+  pub above : Told held (λ entries. IsSomeAnd (bytes_of entries (file_of request)) (λ bytes. 1048576 < length bytes))
 
 -- A status and its text, by the words of the call, what the shelf holds, its count of faults before and after the call, and
 -- the name of the last fetch that failed. Where memory ran out nothing is printed.
 abbrev pub Answers : List Bytes → Option Entries → ℕ → ℕ → Option Bytes → Status → Bytes → Type 0
-Answers words held before now last (Ended o) text = Ran words held o text
-Answers words held before now last Usage text = (text ≡ usage_line) × HasNoReading words
-Answers words held before now last Form text = (text ≡ form_line) × IsNotInForm words held
-Answers words held before now last Shelf text = (text ≡ shelf_line) × IsShelfFault words before now last
-Answers words held before now last TooLong text = (text ≡ too_long_line) × IsTooLong words held
-Answers words held before now last NoMemory text = text ≡ []
-Answers words held before now last Sink text = ⊥
+Answers words held before now last (status.Ended o) text = Ran words held o text
+Answers words held before now last status.Shown text = HasShown words held text
+Answers words held before now last status.Usage text = (text ≡ usage_line) × HasNoReading words
+Answers words held before now last (status.Module f) text = (text ≡ fault_line (codes "module") f) × HasModuleFault words held f
+Answers words held before now last (status.Goal f) text = (text ≡ fault_line (codes "goal") f) × HasGoalFault words held f
+Answers words held before now last status.Form text = (text ≡ form_line) × IsNotInForm words held
+Answers words held before now last status.Shelf text = (text ≡ shelf_line) × IsShelfFault words before now last
+Answers words held before now last status.TooLong text = (text ≡ too_long_line) × IsTooLong words held
+Answers words held before now last status.NoMemory text = text ≡ []
+Answers words held before now last status.Sink text = ⊥
 
 -- ---- what is written: `old` and `new` are what the sink took before and after the call, where it tells that
 
@@ -134,27 +149,46 @@ pub record WritesFront (answer : Status → Bytes → Type 0) (old new : Option 
 
 -- by the status of the call
 abbrev pub Writes : (Status → Bytes → Type 0) → Option Bytes → Option Bytes → ℕ → ℕ → Status → Type 0
-Writes answer old new before now Sink = WritesFront answer old new before now
+Writes answer old new before now status.Sink = WritesFront answer old new before now
 Writes answer old new before now status = WritesWhole (answer status) old new before now
 
--- ---- what has to be run: with no fault of the shelf or the sink, the call ends with an outcome, unless memory ran out
+-- ---- what has to be done: with no fault of the shelf or the sink, it is done, unless memory runs out
 
--- the shelf tells what it holds, the words name a file of it that is not too long, and both texts are read
-pub record HasRun (words : List Bytes) (held : Option Entries) : Type 0 where
+-- the shelf tells what it holds, and the words name a file of it that is not too long
+pub record IsThere (words : List Bytes) (held : Option Entries) (r : Request) (bytes : Bytes) : Type 0 where
   pub entries : Entries
   pub tells : held ≡ Some entries
+  pub reading : IsReading words r
+  pub there : bytes_of entries (file_of r) ≡ Some bytes
+  pub within : length bytes ≤ 1048576
+
+-- a goal is to be run, neither text has a fault, and they are of what runs so far
+pub record HasRun (words : List Bytes) (held : Option Entries) : Type 0 where
   pub file : Bytes
   pub goal : Bytes
-  pub reading : IsReading words file goal
   pub bytes : Bytes
-  pub there : bytes_of entries file ≡ Some bytes
-  pub within : length bytes ≤ 1048576
+  pub is_there : IsThere words held (run file goal) bytes
   pub m : Module
   pub g : GoalText
   pub names : List Bytes
-  pub read : AreRead bytes goal m g names
+  pub loaded : AreLoaded bytes goal m g names
+  pub runnable : is_runnable m g ≡ true
+
+-- a file is to be shown that has no fault
+pub record HasFile (words : List Bytes) (held : Option Entries) : Type 0 where
+  pub file : Bytes
+  pub bytes : Bytes
+  pub is_there : IsThere words held (show file) bytes
+  pub m : Module
+  pub names : List Bytes
+  pub loaded : IsLoadedModule bytes m names
 
 abbrev pub IsRunOrNoMemory : Status → Type 0
-IsRunOrNoMemory (Ended o) = Unit {0}
-IsRunOrNoMemory NoMemory = Unit {0}
+IsRunOrNoMemory (status.Ended o) = Unit {0}
+IsRunOrNoMemory status.NoMemory = Unit {0}
 IsRunOrNoMemory _ = ⊥
+
+abbrev pub IsShownOrNoMemory : Status → Type 0
+IsShownOrNoMemory status.Shown = Unit {0}
+IsShownOrNoMemory status.NoMemory = Unit {0}
+IsShownOrNoMemory _ = ⊥

@@ -1,3 +1,5 @@
 pub mod Headline
+pub mod Loading
 pub mod Parts
+pub mod Requests
 pub mod Statuses

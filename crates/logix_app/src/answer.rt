@@ -1,13 +1,18 @@
 //! What the program answers to its words.
 ghost use Rattle.std.specs.Prelude.{◌≡◌, ◌≤◌, length, map};
 ghost use Rattle.std.specs.String.{string_bytes};
+ghost use Rattle.logix_edge.specs.Sinks.{IsPut};
 ghost use Rattle.logix_app.specs.Headline.{Answers};
-ghost use Rattle.logix_app.specs.Parts.{status_of, text_of, AnswersTexts};
+ghost use Rattle.fcp_text.specs.SourceClauses.{module_text};
+ghost use Rattle.logix_app.specs.Parts.{status_of, text_of, request_of, HasShortGoal, AnswersRequest};
 
 use crate::Status;
-use crate::run::run_texts;
-use crate::words::reading;
-use logix_edge::{Fetched, Shelf};
+use crate::loading::{answer_run, answer_show};
+use crate::words::{Request, reading};
+use crate::writing::put_all;
+use fcp_model::{Fault, Loaded, Names};
+use fcp_text::write_module;
+use logix_edge::{Fetched, Put, Shelf, Sink};
 use plain_engine::Report;
 use std::alloc::Global;
 
@@ -19,6 +24,12 @@ const MOST_FILE_BYTES: u64 = 1_048_576;
 pub enum Answer {
     /// The report of a run.
     Ran(Report),
+    /// The canonical text of a module, whose strings these are.
+    Shows(Names, Loaded),
+    /// The first fault of a module, and its line.
+    ModuleFault(Fault, Vec<u8>),
+    /// The first fault of a goal, and its line.
+    GoalFault(Fault, Vec<u8>),
     NotInForm,
     Usage,
     ShelfFault,
@@ -33,6 +44,9 @@ impl Answer {
     {
         match self {
             Answer::Ran(report) => Status::Ended(report.outcome),
+            Answer::Shows(_, _) => Status::Shown,
+            Answer::ModuleFault(fault, _) => Status::Module(*fault),
+            Answer::GoalFault(fault, _) => Status::Goal(*fault),
             Answer::NotInForm => Status::Form,
             Answer::Usage => Status::Usage,
             Answer::ShelfFault => Status::Shelf,
@@ -41,18 +55,31 @@ impl Answer {
         }
     }
 
-    /// What is printed.
-    pub fn text(&self) -> &[u8]
-        ensures { result.now ≡ text_of self.now }
+    /// Puts what is printed to a sink.
+    pub fn put<K: Sink>(&self, sink: &mut K) -> Put
+        ensures { IsPut (K.written sink.old) (K.written sink.new) (K.faults sink.old) (K.faults sink.new) (text_of self.now) result }
     {
         match self {
-            Answer::Ran(report) => report.text.as_slice(),
-            Answer::NotInForm => b"logix: not in this form\n",
-            Answer::Usage => b"logix: usage\n",
-            Answer::ShelfFault => b"logix: shelf fault\n",
-            Answer::TooLong => b"logix: too long\n",
-            Answer::NoMemory => b"",
+            Answer::Ran(report) => put_all(sink, report.text.as_slice()),
+            Answer::Shows(names, loaded) => put_module(names, loaded, sink),
+            Answer::ModuleFault(_, line) => put_all(sink, line.as_slice()),
+            Answer::GoalFault(_, line) => put_all(sink, line.as_slice()),
+            Answer::NotInForm => put_all(sink, b"logix: not in this form\n"),
+            Answer::Usage => put_all(sink, b"logix: usage\n"),
+            Answer::ShelfFault => put_all(sink, b"logix: shelf fault\n"),
+            Answer::TooLong => put_all(sink, b"logix: too long\n"),
+            Answer::NoMemory => put_all(sink, b""),
         }
+    }
+}
+
+/// Puts the canonical text of a module, piece by piece.
+fn put_module<K: Sink>(names: &Names, loaded: &Loaded, sink: &mut K) -> Put
+    ensures { IsPut (K.written sink.old) (K.written sink.new) (K.faults sink.old) (K.faults sink.new) (module_text names.now loaded.now) result }
+{
+    match write_module(names, loaded.module(), sink) {
+        Ok(()) => Put::Done,
+        Err(_) => Put::Failed,
     }
 }
 
@@ -62,26 +89,25 @@ pub fn answer_of<S: Shelf>(alloc: Global, words: &[String], shelf: &mut S) -> An
     ensures answer { Answers (map string_bytes words.now) (S.held shelf.old) (S.faults shelf.old) (S.faults shelf.new)
         (S.last_failed shelf.new) (status_of result) (text_of result) }
 {
-    let Some(reading) = reading(words) else {
+    let Some(request) = reading(words) else {
         return Answer::Usage;
     };
-    match shelf.fetch(alloc, reading.file, MOST_FILE_BYTES) {
-        Fetched::Bytes(bytes) => answer_to(alloc, bytes.as_slice(), reading.goal.as_bytes()),
+    match shelf.fetch(alloc, request.file(), MOST_FILE_BYTES) {
+        Fetched::Bytes(bytes) => answer_to(alloc, request, bytes.as_slice()),
         Fetched::TooLong => Answer::TooLong,
         Fetched::Failed => Answer::ShelfFault,
         Fetched::NoMemory => Answer::NoMemory,
     }
 }
 
-/// The answer to the texts of a module and a goal.
-fn answer_to(alloc: Global, file: &[u8], goal: &[u8]) -> Answer
-    requires file { length file.now ≤ 1048576 }
-    requires goal { length goal.now ≤ 1048576 }
-    ensures { AnswersTexts file.now goal.now result }
+/// The answer to a request, over the bytes of the file that it names.
+fn answer_to(alloc: Global, request: Request, bytes: &[u8]) -> Answer
+    requires file { length bytes.now ≤ 1048576 }
+    requires goal { HasShortGoal (request_of request) }
+    ensures { AnswersRequest (request_of request.entry) bytes.now result }
 {
-    match run_texts(alloc, file, goal) {
-        Ok(Some(report)) => Answer::Ran(report),
-        Ok(None) => Answer::NotInForm,
-        Err(_) => Answer::NoMemory,
+    match request {
+        Request::Run { file: _, goal } => answer_run(alloc, bytes, goal.as_bytes()),
+        Request::Show { file: _ } => answer_show(alloc, bytes),
     }
 }

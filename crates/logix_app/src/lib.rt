@@ -1,14 +1,16 @@
-//! The program's work: its words, the fetch of the file, the run, and the writing of the report.
+//! The program's work: its words, the fetch of the file, the run or the text that is shown, and the writing.
 #![tactic(auto)]
 
 ghost use Rattle.std.specs.Prelude.{◌≡◌, map};
 ghost use Rattle.std.specs.String.{string_bytes};
 ghost use Rattle.logix_edge.specs.Causes.{Rose};
-ghost use Rattle.logix_app.specs.Headline.{Answers, Writes, HasRun, IsRunOrNoMemory};
+ghost use Rattle.logix_app.specs.Headline.{Answers, Writes, HasRun, IsRunOrNoMemory, HasFile, IsShownOrNoMemory};
 
 mod answer;
 mod called;
-mod run;
+mod first_form;
+mod lines;
+mod loading;
 mod status;
 #[cfg(test)]
 mod tests;
@@ -19,10 +21,10 @@ use answer::answer_of;
 use logix_edge::{Put, Shelf, Sink};
 pub use status::Status;
 use std::alloc::Global;
-use writing::put_all;
 
-/// Does what the words ask for: `run FILE GOAL` runs the goal over the module of the file, with one worker, and puts the
-/// report to the sink. Any other answer but that memory ran out is a line of its own.
+/// Does what the words ask for. `run FILE GOAL` runs the goal over the module of the file, with one worker, and puts the
+/// report to the sink; `show FILE` puts the module's canonical text. Any other answer but that memory ran out is a line of
+/// its own.
 pub fn run_alone<S: Shelf, K: Sink>(
     alloc: Global,
     words: &[String],
@@ -35,12 +37,16 @@ pub fn run_alone<S: Shelf, K: Sink>(
         (Answers (map string_bytes words.now) (S.held shelf.old) (S.faults shelf.old) (S.faults shelf.new) (S.last_failed shelf.new))
         (K.written sink.old) (K.written sink.new) (K.faults sink.old) (K.faults sink.new) result }
 
-    ensures complete { HasRun (map string_bytes words.now) (S.held shelf.old)
+    ensures runs { HasRun (map string_bytes words.now) (S.held shelf.old)
         → ¬ Rose (S.faults shelf.old) (S.faults shelf.new) → ¬ Rose (K.faults sink.old) (K.faults sink.new)
         → IsRunOrNoMemory result }
+
+    ensures shows { HasFile (map string_bytes words.now) (S.held shelf.old)
+        → ¬ Rose (S.faults shelf.old) (S.faults shelf.new) → ¬ Rose (K.faults sink.old) (K.faults sink.new)
+        → IsShownOrNoMemory result }
 {
     let answer = answer_of(alloc, words, shelf);
-    match put_all(sink, answer.text()) {
+    match answer.put(sink) {
         Put::Done => answer.status(),
         Put::Failed => Status::Sink,
     }

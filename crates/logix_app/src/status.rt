@@ -1,16 +1,22 @@
 ghost use Rattle.std.specs.Prelude.{◌≡◌};
 ghost use Rattle.logix_app.specs.Statuses.{outcome_number, status_number};
 
-use fcp_model::Outcome;
+use fcp_model::{Fault, Outcome};
 
 /// How a call of the program ended.
 #[derive(Clone, Copy, Debug, PartialEq, Eq)]
 pub enum Status {
     /// The goal was run, and the run ended so.
     Ended(Outcome),
-    /// The words are not `run FILE GOAL`.
+    /// The module was shown.
+    Shown,
+    /// The words are neither `run FILE GOAL` nor `show FILE`.
     Usage,
-    /// The file or the goal is not in the form, or an item calls no procedure of the module.
+    /// The module has a fault, this one first.
+    Module(Fault),
+    /// The module has none, and the goal has a fault, this one first.
+    Goal(Fault),
+    /// Neither has a fault, and they are not of what runs so far.
     Form,
     /// The shelf counted a fault.
     Shelf,
@@ -29,7 +35,10 @@ impl Status {
     {
         match self {
             Status::Ended(outcome) => number_of(*outcome),
+            Status::Shown => 0,
             Status::Usage => 2,
+            Status::Module(_) => 3,
+            Status::Goal(_) => 4,
             Status::Shelf => 6,
             Status::TooLong => 7,
             Status::Sink => 13,

@@ -1,6 +1,14 @@
+mod goals;
+mod grammar;
+mod limits;
+mod loading;
+mod marks;
+mod shown;
+mod tokens;
+
 use crate::writing::put_all;
 use crate::{Status, run_alone};
-use fcp_model::{Outcome, Seq};
+use fcp_model::{Code, Fault, Outcome, Seq};
 use logix_edge::{MemoryShelf, MemorySink, Put};
 use std::alloc::Global;
 use std::test::Fail;
@@ -60,6 +68,11 @@ fn other_words_have_no_reading(rt: HostRuntime) -> Result<(), Fail> {
         "run f ",
         "run  p",
         "Run f p",
+        "show",
+        "show f p",
+        "show -f",
+        "show ",
+        "Show f",
     ];
     for line in lines {
         assert!(rt;
@@ -77,18 +90,22 @@ fn other_words_have_no_reading(rt: HostRuntime) -> Result<(), Fail> {
     Ok(())
 }
 
+/// Texts without a fault that are not of strings and variables alone, or call something else than procedures.
 #[test]
 fn other_texts_are_not_in_the_form(rt: HostRuntime) -> Result<(), Fail> {
     let rows = [
         (b"p([]).".as_slice(), "run f p(X)"),
-        (b"p(a).", "run f p([])"),
-        (b"p(a).", "run f q(X)"),
-        (b"p(a).", "run f p(X),q"),
-        (b"p(a).", "run f p(X,Y)"),
-        (b"p(a).", "run f true"),
-        (b"p(a):-q.", "run f p(X)"),
+        (b"p(1).", "run f p(X)"),
+        (b"p([a]).", "run f p(X)"),
+        (b"p({a}).", "run f p(X)"),
+        (b"p(f(a)).", "run f p(X)"),
+        (b"p(X):-known(X)|true.", "run f p(X)"),
         (b"p(a):-true.", "run f p(X)"),
-        (b"p(a).q:-p.", "run f p(X)"),
+        (b"p(X):-X=a.", "run f p(X)"),
+        (b"p(X):-X:=1.", "run f p(X)"),
+        (b"p(a).", "run f p([])"),
+        (b"p(a).", "run f true"),
+        (b"p(a).", "run f X=Y"),
     ];
     for (file, line) in rows {
         assert!(rt;
@@ -102,6 +119,96 @@ fn other_texts_are_not_in_the_form(rt: HostRuntime) -> Result<(), Fail> {
             "{line:?}"
         );
     }
+    Ok(())
+}
+
+/// Faults of modules and goals; a module's goes before its goal's.
+#[test]
+fn faults_are_told(rt: HostRuntime) -> Result<(), Fail> {
+    let module = |code, at| Status::Module(Fault { code, at });
+    let goal = |code, at| Status::Goal(Fault { code, at });
+    let rows = [
+        (
+            b"p(a):-q.".as_slice(),
+            "run f p(X)",
+            module(Code::UnknownProcedure, 6),
+            b"logix: module fault 12 at 6\n".as_slice(),
+        ),
+        (
+            b"p(a).q:-p.",
+            "run f r",
+            module(Code::UnknownProcedure, 8),
+            b"logix: module fault 12 at 8\n",
+        ),
+        (
+            b"p(a)",
+            "show f",
+            module(Code::Unexpected, 4),
+            b"logix: module fault 5 at 4\n",
+        ),
+        (
+            b"p(a).",
+            "run f q(X)",
+            goal(Code::UnknownProcedure, 0),
+            b"logix: goal fault 12 at 0\n",
+        ),
+        (
+            b"p(a).",
+            "run f p(X),q",
+            goal(Code::UnknownProcedure, 5),
+            b"logix: goal fault 12 at 5\n",
+        ),
+        (
+            b"-export([q/0]).p.q.",
+            "run f q,p",
+            goal(Code::NotExported, 2),
+            b"logix: goal fault 15 at 2\n",
+        ),
+    ];
+    for (file, line, status, text) in rows {
+        assert!(rt; gives(rt.alloc(), line, file, status, text)?, "{line:?}");
+    }
+    assert_eq!(rt; module(Code::NotUtf8, 0).number(), 3);
+    assert_eq!(rt; goal(Code::NotUtf8, 0).number(), 4);
+    Ok(())
+}
+
+#[test]
+fn a_module_is_shown(rt: HostRuntime) -> Result<(), Fail> {
+    assert!(rt;
+        gives(
+            rt.alloc(),
+            "show f",
+            b"p( X ):-X?=a. % c",
+            Status::Shown,
+            b"p(V1) :- V1? = a.\n"
+        )?
+    );
+    assert_eq!(rt; Status::Shown.number(), 0);
+    Ok(())
+}
+
+/// Each of the first puts that fails, and a room of one byte too few.
+#[test]
+fn a_module_that_is_not_written_is_told(rt: HostRuntime) -> Result<(), Fail> {
+    let alloc = rt.alloc();
+    let words = words_in(alloc, "show f")?;
+    for call in 1..4 {
+        let mut shelf = shelf_of(alloc, b"p(X).", &[])?;
+        let mut sink = sink_of(alloc, 100, &[call])?;
+        assert_eq!(rt;
+            run_alone(alloc, words.as_slice(), &mut shelf, &mut sink),
+            Status::Sink
+        );
+        assert!(rt; b"p(V1).\n".starts_with(sink.bytes()));
+        assert!(rt; sink.bytes().len() < 7);
+    }
+    let mut shelf = shelf_of(alloc, b"p(X).", &[])?;
+    let mut sink = sink_of(alloc, 6, &[])?;
+    assert_eq!(rt;
+        run_alone(alloc, words.as_slice(), &mut shelf, &mut sink),
+        Status::Sink
+    );
     Ok(())
 }
 
@@ -121,7 +228,7 @@ fn a_file_may_be_absent_or_too_long(rt: HostRuntime) -> Result<(), Fail> {
     assert!(rt;
         gives(
             alloc,
-            "run f p",
+            "run f true",
             most.as_slice(),
             Status::Form,
             b"logix: not in this form\n"
@@ -159,7 +266,7 @@ fn calls_that_fail_are_told(rt: HostRuntime) -> Result<(), Fail> {
         (none, none, 24, Status::Form, b"logix: not in this form\n"),
         (first, first, 100, Status::Sink, b""),
     ];
-    let words = words_in(alloc, "run f q")?;
+    let words = words_in(alloc, "run f true")?;
     for (shelf_fails, sink_fails, room, status, text) in rows {
         let mut shelf = shelf_of(alloc, b"p.", shelf_fails)?;
         let mut sink = sink_of(alloc, room, sink_fails)?;

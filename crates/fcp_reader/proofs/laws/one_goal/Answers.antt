@@ -1,5 +1,5 @@
-use Rattle.fcp_reader.proofs.Verdicts as verdicts
+use Rattle.fcp_reader.proofs.TextLaws.{one_goal_law}
 use Rattle.fcp_reader.proofs.laws.one_goal.Goals as goal
 
 pub returns : goal.returns
-returns c = verdicts.one_goal
+returns c = one_goal_law

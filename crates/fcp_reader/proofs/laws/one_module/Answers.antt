@@ -1,5 +1,5 @@
-use Rattle.fcp_reader.proofs.Verdicts as verdicts
+use Rattle.fcp_reader.proofs.TextLaws.{one_module_law}
 use Rattle.fcp_reader.proofs.laws.one_module.Goals as goal
 
 pub returns : goal.returns
-returns c = verdicts.one_module
+returns c = one_module_law
