@@ -1,0 +1,11 @@
+pub mod Characters
+pub mod Endings
+pub mod Cutting
+pub mod Reading
+pub mod Joined
+pub mod SpelledTerms
+pub mod SpelledModules
+pub mod Fitted
+pub mod FittingTerms
+pub mod FittingModules
+pub mod CanonicalTexts

@@ -1,0 +1,7 @@
+pub mod Spellings
+pub mod Fitting
+pub mod TermSpellings
+pub mod SourceSpellings
+pub mod Writable
+pub mod Readings
+pub mod TextLaws
