@@ -15,8 +15,6 @@ mod write_clauses;
 mod write_expressions;
 mod write_items;
 mod write_terms;
-#[cfg(test)]
-mod write_tests;
 
 pub use laws::{tokens_are_few, tokens_are_spelled_well, tokens_stand_in_order};
 pub use lexer::{Token, tokens};
