@@ -66,6 +66,11 @@ def quoted(size):
     return "p([" + ",".join(f"'it''s {i}'" for i in range(size // 14)) + "]).", SHOWN
 
 
+def colliding(size):
+    """Different strings that the kit's fixed hash takes for one: their first 24 bytes make a factor of it 0."""
+    return "p([" + ",".join(f"'dsryprtktnsukyzfha;6|I 8{i:08}'" for i in range(size // 35 - 1)) + "]).", SHOWN
+
+
 def one_string(size):
     """One string, as long as the file."""
     return filled("''", size, "p('", "')."), SHOWN
@@ -87,7 +92,7 @@ def late_fault(size):
     return filled("p(a).\n", size - 1)[: size - 1] + ")", MODULE_FAULT
 
 
-CASES = [blanks, comments, facts, procedures, rules, one_list, numbers, quoted, one_string, brackets, variables, late_fault]
+CASES = [blanks, comments, facts, procedures, rules, one_list, numbers, quoted, colliding, one_string, brackets, variables, late_fault]
 
 
 def call(program, file):

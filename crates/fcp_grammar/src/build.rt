@@ -1,6 +1,7 @@
 //! Building terms.
 ghost use Rattle.std.specs.Prelude.{◌≡◌, [], ◌∷◌, ◌++◌, IfOk, OnOk};
 ghost use Rattle.fcp_grammar.specs.Values.{listed, tuple_of};
+ghost use Rattle.fcp_model.specs.declared.term.Term.TheVariants.{Cons};
 
 use fcp_model::{NoMemory, Seq, Sym, Term};
 use sqlite_items::Boxed;
@@ -15,6 +16,13 @@ fn boxed(alloc: Global, term: Term) -> Result<Boxed<Term>, NoMemory>
     }
 }
 
+/// A pair of a first part and a rest.
+fn pair(alloc: Global, first: Term, rest: Term) -> Result<Term, NoMemory>
+    ensures { IfOk result (λ t. t ≡ Cons first rest) }
+{
+    Ok(Term::Cons(boxed(alloc, first)?, boxed(alloc, rest)?))
+}
+
 /// A pair for each element, in order, and then the rest.
 #[tactic(auto, using(crate::proofs::Listed::listed_append))]
 pub fn list(alloc: Global, elements: Seq<Term>, rest: Term) -> Result<Term, NoMemory>
@@ -23,7 +31,7 @@ pub fn list(alloc: Global, elements: Seq<Term>, rest: Term) -> Result<Term, NoMe
     let mut left = elements.into_vec();
     let mut built = rest;
     while let Some(last) = left.pop() {
-        built = Term::Cons(boxed(alloc, last)?, boxed(alloc, built)?);
+        built = pair(alloc, last, built)?;
     }
     Ok(built)
 }

@@ -1,4 +1,4 @@
--- Modules and goals of constants and variables alone, over so many numbered strings.
+-- Modules and goals of strings and variables alone, over so many numbered strings.
 use Rattle.std.specs.Prelude.{ℕ, Bool, true, false, not, ◌&&◌, nat_eq, nat_lt, nat_le, List, [], ◌∷◌, length, Option, Some, None}
 use Rattle.std.specs.List.{list_all, list_any}
 use Rattle.fcp_model.specs.declared.names.Sym.{Sym}

@@ -17,8 +17,8 @@ both_texts None b = None
 both_texts (Some a) None = None
 both_texts (Some a) (Some b) = Some (a ++ b)
 
--- ` _a.b=TERM` for each place of an earlier entry or of the goal that the try bound, in its order, with the term's value
--- in the map `bound`, cut after 64 nodes
+-- one ` _a.b=TERM` for a binding of the try, the oldest binding first, with the term's value in the map `bound`, cut
+-- after 64 nodes; the clause's new variables are left out
 abbrev pub bindings_text : ℕ → List Bytes → Bindings → ℕ → Bindings → Option Bytes
 bindings_text n names bound entry [] = Some []
 bindings_text n names bound entry ((made p, t) ∷ bs) =

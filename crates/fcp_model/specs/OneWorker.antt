@@ -10,8 +10,8 @@ use Rattle.fcp_model.specs.States.{Process, State, Mode, is_open, is_held, is_fa
 use Rattle.fcp_model.specs.Events.{Event, event_of, control_event}
 use Rattle.fcp_model.specs.Bounds.{act_entry, is_commit, one}
 
--- Where a run of one worker stands: the state, the queue of ready processes, how many of them went to the back since
--- the last move, what was used of the limits, and the controls that are left.
+-- Where a run of one worker stands: the state, the queue of ready processes, how many of them were put back since the
+-- last move, what was used of the limits, and the controls that are left.
 pub record Stand : Type 0 where
   pub state : State
   pub queue : List Process
@@ -76,8 +76,8 @@ queue_ruling n m limits at (p ∷ rest) = elim (nat_le limits.commits at.commits
 
 -- The rules, of which the first that applies is taken: after a fail or an abort the run ends; a control whose number of
 -- moves was made is made; a suspended run ends; with an empty queue the run ends, and so where the commits or the moves
--- are at their limit, or as many processes went to the back since the last move as the queue holds; else the front's
--- entry is made, or the front goes to the back. None where n steps are too few.
+-- are at their limit, or every process of the queue was put back since the last move; else the front's entry is made,
+-- or the front goes to the back. None where n steps are too few.
 abbrev pub ruling : ℕ → Program → Limits → Stand → Option Ruling
 ruling n m limits at = elim (is_over at.state.mode) [
   | true ↦ Some ends

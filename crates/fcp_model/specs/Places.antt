@@ -3,7 +3,7 @@ use Rattle.std.specs.Prelude.{ℕ, Bool, true, false, ◌&&◌, ◌||◌, nat_eq
 use Rattle.fcp_model.specs.declared.run.Place.{Place}
 use Rattle.fcp_model.specs.declared.run.Proc.{Proc}
 
--- `_n.k`, the k-th place that entry n made, or the goal's k-th variable where n is 0
+-- `_n.k`: variable k of the clause by which entry n committed; with n = 0 it is one of the goal's
 abbrev pub place : ℕ → ℕ → Place
 place n k = record { entry = n; number = k }
 

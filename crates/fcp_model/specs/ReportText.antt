@@ -57,7 +57,7 @@ operator_text Mul = codes " * "
 operator_text Div = codes " / "
 operator_text Mod = codes " mod "
 
--- an expression, each leaf by value and cut after 1,024 nodes; an operand that is itself an operation stands in parentheses
+-- an expression, each leaf by value and cut after 1,024 nodes; operations within operations are put in parentheses
 abbrev mutual
   pub expr_text : ℕ → List Bytes → Bindings → Expr Variable → Option Bytes
   expr_text n names s (leaf t) = cut_text n names s 1024 t

@@ -42,9 +42,6 @@ next n m s Suspend = control s Suspend (is_running s.mode) is_held
 next n m s Resume = control s Resume (is_suspended s.mode) is_open
 next n m s Abort = control s Abort (is_running s.mode || is_suspended s.mode) is_aborted
 
-abbrev pub Legal : Program → State → Entry → Type 0
-Legal m s e = (n : ℕ) × (ev : Event) × (next n m s e ≡ Some ev)
-
 -- the events of the entries of a log, one after another, or None where one is not legal, or n steps are too few
 abbrev pub replay : ℕ → Program → State → List Entry → Option (List Event)
 replay n m s [] = Some []

@@ -41,8 +41,8 @@ abbrev pub string_of : Option Look → Option ℕ
 string_of (Some (solid (string s))) = Some s
 string_of _ = None
 
--- Each number, string, variable, pair, tuple and `[]` takes a node when it is come to, a list's rest and its end among
--- them. Where none is left, `..` stands for the term. `n` bounds the steps.
+-- Whatever is reached costs one node, a list's rest and its end too. Where none is left, `..` stands for the term. `n`
+-- bounds the steps.
 abbrev mutual
   pub term_text : ℕ → List Bytes → Bindings → ℕ → Term Variable → Option Written
   term_text zero names s left t = None

@@ -69,7 +69,7 @@ impl Loaded {
         &self.module
     }
 
-    /// The number of a procedure, or `None` exactly where no clause has that name and so many arguments.
+    /// The number of a procedure, from 0; `None` for one that has no clause.
     pub fn find(&self, name: Sym, arity: u32) -> Option<u32>
         ensures { result ≡ position (same_head (record { name = name; arity = arity })) (heads_in self.now.clauses) }
     {

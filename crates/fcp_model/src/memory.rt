@@ -1,6 +1,6 @@
 use thiserror::Error;
 
-/// Memory ran out. No clause ties it to a refused growth: a call that allocates may answer it.
+/// Memory ran out. No contract says when: each call that allocates may answer so.
 #[derive(Clone, Copy, Debug, PartialEq, Eq, Error)]
 #[error("out of memory")]
 pub struct NoMemory;

@@ -4,17 +4,35 @@ ghost use Rattle.fcp_model.specs.NameList.{noted, number_of, reserved_names};
 use crate::NoMemory;
 use indexmap::IndexSet;
 use std::alloc::Global;
+use std::hash::{BuildHasher, DefaultHasher, Hasher};
 use std::marker::Model;
 
 /// The number of a string: its position, from 0, in a list of `Names`.
 #[derive(Clone, Copy, Debug, PartialEq, Eq, PartialOrd, Ord, Hash)]
 pub struct Sym(pub u32);
 
+/// Hashes each string behind a text that was hashed first. Whoever picks strings so that their hashes fall together has to know
+/// that text, in which they stand themselves.
+#[derive(Clone, Copy)]
+struct BehindText {
+    begun: DefaultHasher,
+}
+
+impl BuildHasher for BehindText {
+    type Hasher = DefaultHasher;
+
+    ghost build_hasher = { λ s. s.begun };
+
+    fn build_hasher(&self) -> DefaultHasher {
+        self.begun
+    }
+}
+
 /// The strings of a module and a goal, numbered in order of first appearance. Contracts see the list of their bytes.
 /// The nine reserved names come first.
 #[derive(Drop)]
 pub struct Names {
-    texts: IndexSet<String>,
+    texts: IndexSet<String, BehindText>,
     alloc: Global,
 }
 
@@ -34,8 +52,18 @@ impl Names {
     pub fn make(alloc: Global) -> Result<Names, NoMemory>
         ensures { IfOk result (λ n. n ≡ reserved_names) }
     {
+        Names::for_text(alloc, &[])
+    }
+
+    /// The nine reserved names, as numbers 0 to 8, for the strings of a text. The text is hashed first, so that the time for
+    /// noting strings is in proportion to their length, however they were picked; the list does not depend on it.
+    pub fn for_text(alloc: Global, text: &[u8]) -> Result<Names, NoMemory>
+        ensures { IfOk result (λ n. n ≡ reserved_names) }
+    {
+        let mut begun = DefaultHasher::new();
+        begun.write(text);
         let mut names = Names {
-            texts: IndexSet::new(alloc),
+            texts: IndexSet::with_hasher(alloc, BehindText { begun }),
             alloc,
         };
         names.note("true")?;
@@ -50,7 +78,7 @@ impl Names {
         Ok(names)
     }
 
-    /// The number of a text, which is put last where it was absent. After `Err` the list is as before.
+    /// The number of a text; a new text is appended. After `Err` the list is as before.
     pub fn note(&mut self, text: &str) -> Result<Sym, NoMemory>
         ensures list { IfOk result (λ s. self.new ≡ noted self.old text.now) }
         ensures number { IfOk result (λ s. s.0 ≡ number_of self.old text.now) }

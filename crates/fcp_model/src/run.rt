@@ -1,25 +1,31 @@
 use crate::Seq;
 
-/// The name `_n.k` of a variable at run time: the k-th, from 1, that entry n made, or the goal's k-th where n is 0.
+/// A variable at run time. `_n.k` is variable k of the clause by which entry n committed; with n = 0 it is one of the goal's.
 #[derive(Clone, Copy, Debug, PartialEq, Eq, PartialOrd, Ord, Hash)]
 pub struct Place {
+    /// The entry's number, from 1, or 0 for the goal.
     pub entry: u32,
+    /// The variable's number, from 1.
     pub number: u32,
 }
 
-/// The name `#n.k` of a process: the k-th, from 1, that entry n made, or the goal's k-th item where n is 0.
+/// A process. `#n.k` is made of item k of the body by which entry n committed; with n = 0 it is one of the goal's.
 #[derive(Clone, Copy, Debug, PartialEq, Eq, PartialOrd, Ord, Hash)]
 pub struct Proc {
+    /// The entry's number, from 1, or 0 for the goal.
     pub entry: u32,
+    /// The item's number, from 1.
     pub number: u32,
 }
 
-/// The limits of a run, each a number of all entries together.
+/// The most that all entries of a run may have together.
 #[derive(Clone, Copy, Debug, PartialEq, Eq)]
 pub struct Limits {
+    /// Commits alone.
     pub commits: u32,
     /// Commits, hangs and fails.
     pub moves: u32,
+    /// The measure of an entry's use of memory, as docs/FORMATS.md counts it.
     pub cells: u32,
 }
 
@@ -32,9 +38,10 @@ pub enum Act {
     Abort,
 }
 
-/// An act that is made when so many moves were made.
+/// An act that is asked for beforehand.
 #[derive(Clone, Copy, Debug, PartialEq, Eq)]
 pub struct Control {
+    /// How many moves the run has made when it is due.
     pub after: u32,
     pub act: Act,
 }
@@ -63,9 +70,9 @@ pub enum Outcome {
     Aborted,
     /// A control suspended the run.
     Held,
-    /// No process is live.
+    /// Every process is finished.
     Terminated,
-    /// A process is live and none is ready.
+    /// A process is not finished, and none is ready.
     Suspended,
     /// The commits or the moves are at their limit.
     Budget,
@@ -78,5 +85,6 @@ pub enum Outcome {
 pub struct Run {
     pub log: Seq<Entry>,
     pub outcome: Outcome,
+    /// How many controls were made, from the first on.
     pub reached: u32,
 }

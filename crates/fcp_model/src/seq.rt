@@ -44,7 +44,7 @@ impl<T> Seq<T> {
         self.items.len()
     }
 
-    /// The item at a position from 0, or `None` exactly where the position is not below `len`.
+    /// The item at a position from 0; `None` past the end.
     pub fn get(&self, at: usize) -> Option<&T>
         ensures value { option_copied result ≡ slice_get self.now at }
         ensures none { IsNone result ↔ (length self.now ≤ at) }
@@ -52,7 +52,7 @@ impl<T> Seq<T> {
         self.items.get(at)
     }
 
-    /// Puts the item last. `Err` is want of memory: it gives the item back, and the list is as before.
+    /// Appends the item. Where memory lacks, the item comes back and nothing has changed.
     pub fn push(&mut self, item: T) -> Result<(), T>
         ensures ok { OnOk result (self.new ≡ self.old ++ item ∷ []) }
         ensures err { OnErr result (self.new ≡ self.old) }

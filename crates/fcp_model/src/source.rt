@@ -56,7 +56,7 @@ pub struct Module {
     pub name: Option<Sym>,
     /// The place of a second `-module`.
     pub again: Option<u32>,
-    /// The place of the first attribute that is neither `-module` nor `-export`.
+    /// The place of the first attribute of another name than `module` and `export`.
     pub other: Option<u32>,
     /// What the `-export`s list together, or `None` where the text has none: then all procedures are exported.
     pub exports: Option<Seq<Export>>,
@@ -68,6 +68,6 @@ pub struct Module {
 #[derive(Drop)]
 pub struct GoalText {
     pub items: Seq<Item>,
-    /// For each variable in order its name, or `None` where the name begins with `_`.
+    /// The variables' names, the first variable's first; `None` for one whose name begins with `_`.
     pub names: Seq<Option<Sym>>,
 }

@@ -1,4 +1,4 @@
-//! Worked examples of the runs of Flat Concurrent Prolog: small programs, and the whole report of each by the definitions.
+//! Worked examples of the runs of Flat Concurrent Prolog: small programs, and the report of each by the definitions, or for the longest its log.
 #![tactic(auto)]
 
 ghost use Rattle.fcp_rows.specs.Commits.{a_fact_binds_the_goal, a_commit_wakes_the_waiting, a_failed_process_ends_the_run, a_later_pair_sees_the_binding, a_process_is_woken_once};

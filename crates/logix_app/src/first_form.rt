@@ -1,4 +1,4 @@
-//! Whether a module and a goal are in the first form: of constants and variables alone.
+//! Whether a module and a goal are in the first form: of strings and variables alone.
 ghost use Rattle.std.specs.Prelude.{◌≡◌, ◌&&◌, nat_le, nat_lt};
 ghost use Rattle.std.specs.List.{list_all};
 ghost use Rattle.fcp_model.specs.FirstForm as spec;
@@ -86,7 +86,7 @@ fn is_empty(items: &[Item]) -> bool
     items.is_empty()
 }
 
-/// Whether a clause is of constants and at most 250 variables, without a guard.
+/// Whether a clause is of strings and at most 250 variables, without a guard.
 fn is_plain_clause(clause: &Clause) -> bool
     ensures { result ≡ spec.is_plain_clause 4294967296 clause.now }
 {
@@ -105,7 +105,7 @@ fn all_plain_clauses(clauses: &[Clause]) -> bool
     clauses.iter().all(|clause| is_plain_clause(clause))
 }
 
-/// Whether a module has at most 1048576 clauses, all of constants and variables alone.
+/// Whether a module has at most 1048576 clauses, all of strings and variables alone.
 pub fn is_plain(loaded: &Loaded) -> bool
     ensures { result ≡ spec.is_plain_module 4294967296 loaded.now }
 {
@@ -120,7 +120,7 @@ fn all_known_names(names: &[Option<Sym>]) -> bool
     names.iter().all(|name| is_known_name(name))
 }
 
-/// Whether a goal is of constants and at most 250 variables alone.
+/// Whether a goal is of strings and at most 250 variables alone.
 pub fn is_plain_goal(goal: &GoalText) -> bool
     ensures { result ≡ spec.is_plain_goal 4294967296 goal.now }
 {

@@ -105,7 +105,7 @@ pub fn answer_run(alloc: Global, file: &[u8], goal: &[u8]) -> Answer
     requires goal { length goal.now ≤ 1048576 }
     ensures { AnswersRun file.now goal.now result }
 {
-    let Ok(mut names) = Names::make(alloc) else {
+    let Ok(mut names) = Names::for_text(alloc, file) else {
         return Answer::NoMemory;
     };
     match load_text(alloc, file, &mut names) {
@@ -119,7 +119,7 @@ pub fn answer_show(alloc: Global, file: &[u8]) -> Answer
     requires { length file.now ≤ 1048576 }
     ensures { AnswersShow file.now result }
 {
-    let Ok(mut names) = Names::make(alloc) else {
+    let Ok(mut names) = Names::for_text(alloc, file) else {
         return Answer::NoMemory;
     };
     match load_text(alloc, file, &mut names) {

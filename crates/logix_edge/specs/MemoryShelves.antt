@@ -40,9 +40,9 @@ abbrev pub fetch_fails : MemoryShelf → List ℕ → Bool
 fetch_fails shelf name =
     is_listed (shelf_fails shelf) (counted (shelf_calls shelf)) || is_none (bytes_of (shelf_entries shelf) name)
 
--- A fetch fails if it has to, and only then. Where memory lacks even for the name, it answers by the text's length instead.
+-- a fetch fails if it has to, and only then, unless memory lacks
 abbrev pub FailsIf : Bool → Fetched → Type 0
 FailsIf fails (Bytes v) = fails ≡ false
-FailsIf fails TooLong = Unit {0}
+FailsIf fails TooLong = fails ≡ false
 FailsIf fails Failed = fails ≡ true
 FailsIf fails NoMemory = Unit {0}

@@ -1,5 +1,5 @@
 -- What a fetch from a shelf answers.
-use Rattle.std.specs.Prelude.{◌≡◌, ℕ, ◌<◌, ◌≤◌, List, length, Option, Some, None, IfSome, IsSomeAnd}
+use Rattle.std.specs.Prelude.{◌≡◌, ℕ, ◌<◌, ◌≤◌, List, length, Option, Some, None, IsSomeAnd}
 use Rattle.std.specs.Map.{lookup}
 use Rattle.std.specs.Str.{bytes_eq}
 use Rattle.logix_edge.specs.declared.shelf.Fetched.{Fetched}
@@ -44,12 +44,12 @@ IsWithin limit TooLong = Unit {0}
 IsWithin limit Failed = Unit {0}
 IsWithin limit NoMemory = Unit {0}
 
--- what an answer says of the bytes under the name: that it gives them, that they are above the limit, nothing, or that they are not above it
+-- what an answer says of the bytes under the name: that it gives them, that they are above the limit, or nothing
 abbrev pub Agrees : Option (List ℕ) → ℕ → Fetched → Type 0
 Agrees there limit (Bytes v) = there ≡ Some v.items
 Agrees there limit TooLong = IsSomeAnd there (λ bytes. limit < length bytes)
 Agrees there limit Failed = Unit {0}
-Agrees there limit NoMemory = IfSome there (λ bytes. length bytes ≤ limit)
+Agrees there limit NoMemory = Unit {0}
 
 -- A shelf was asked for a name: what it holds, the count of faults, before and now, and the name that failed last, which was and is.
 pub record IsFetch (held : Option Entries) (before now : ℕ) (was is : Option (List ℕ)) (name : List ℕ) (limit : ℕ) (fetched : Fetched) : Type 0 where

@@ -74,17 +74,12 @@ impl Shelf for MemoryShelf {
     {
         let fails = self.calls.next_fails();
         let found = find(self.names.as_slice(), self.texts.as_slice(), name);
-        let too_long = found.is_some_and(|text| text.len() as u64 > limit);
         // The copy comes first, so that a fetch that fails can keep the name.
         let Ok(kept) = String::from_str(alloc, name) else {
-            return if too_long {
-                Fetched::TooLong
-            } else {
-                Fetched::NoMemory
-            };
+            return Fetched::NoMemory;
         };
         match found {
-            Some(_) if too_long && !fails => Fetched::TooLong,
+            Some(text) if !fails && text.len() as u64 > limit => Fetched::TooLong,
             Some(text) if !fails => match Vec::from_slice(alloc, text.as_slice()) {
                 Ok(bytes) => Fetched::Bytes(bytes),
                 Err(_) => Fetched::NoMemory,

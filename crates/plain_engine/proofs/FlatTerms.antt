@@ -49,7 +49,7 @@ user_cells hs name zero ts long free = go name.0
     go (suc j) = omega (arith, long, free)
 user_cells hs name (suc n) ts long free = omega (arith, long, free)
 
--- the cells of a call of constants and variables
+-- the cells of a call of strings and variables
 pub plain_call_cells : (names vars : ℕ) (call : Call) (name : Sym) (args : List source.Term) (n : ℕ) → call ≡ User name args → n ≡ length args → is_plain_call names vars call ≡ true
     → (hs : List Head) → goal_cells (goal_of hs call) ≡ 4 + n
 plain_call_cells names vars call name args n is long plain hs =
@@ -58,7 +58,7 @@ plain_call_cells names vars call name args n is long plain hs =
     let free : sum_by term_cells (map term_of args) ≡ 0 = all_flat_cells names vars args (and_parts (nat_le (length args) 64) (list_all (is_flat names vars) args) flat).1 in
     ap (λ c. goal_cells (goal_of hs c)) is ∙ (user_cells hs name (length args) (map term_of args) (length-map args term_of) free ∙ ap (λ k. 4 + k) (sym long))
 
--- the cells of a clause of constants and variables
+-- the cells of a clause of strings and variables
 pub plain_clause_cells : (names : ℕ) (c : read.Clause) (two body : ℕ) → is_plain_clause names c ≡ true → two ≡ c.vars → ((hs : List Head) → sum_by goal_cells (goals_of hs c.body) ≡ body)
     → (hs : List Head) → clause_cells (clause_of hs c) ≡ 2 * two + body
 plain_clause_cells names c two body plain is costs hs =

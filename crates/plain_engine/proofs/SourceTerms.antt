@@ -1,4 +1,4 @@
--- Source terms of constants and variables, as the definitions have them.
+-- Source terms of strings and variables, as the definitions have them.
 use Rattle.std.proofs.Common.{◌≡◌, ℕ, List, refl, sym, ap, ◌∙◌}
 use Rattle.fcp_model.specs.declared.names.Sym.{Sym}
 use Rattle.fcp_model.specs.declared.term.Term as source

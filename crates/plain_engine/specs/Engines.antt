@@ -27,7 +27,7 @@ use Rattle.plain_engine.specs.Sound.{IsAmong, IsSound, AreFresh}
 use Rattle.plain_engine.specs.Additions.{Adds, AddsCommit, hang_line, fail_line}
 use Rattle.plain_engine.specs.Processes.{process_of, waiting_process}
 
--- the task is of constants and variables alone, and each item calls a procedure of the module
+-- the task is of strings and variables alone, and each item calls a procedure of the module
 pub record IsTask (t : Task) : Type 0 where
   pub plain : IsPlain t.loaded.now
   pub plain_goal : IsPlainGoal t.goal.now

@@ -1,4 +1,4 @@
--- Clauses whose heads are of constants and variables alone, without a guard.
+-- Clauses whose heads are of strings and variables alone, without a guard.
 use Rattle.std.specs.Prelude.{◌≡◌, ℕ, true, List}
 use Rattle.fcp_model.specs.declared.term.Term.{Term}
 use Rattle.fcp_model.specs.declared.source.Call.{Call}
@@ -8,7 +8,7 @@ use Rattle.fcp_model.specs.declared.source.Module.{Module}
 use Rattle.fcp_model.specs.declared.source.GoalText.{GoalText}
 use Rattle.fcp_model.specs.FirstForm.{is_flat, are_flat, is_plain_call, are_plain_items, is_plain_clause, is_plain_module, is_plain_goal}
 
--- a module of constants and variables alone, over some number of strings
+-- a module of strings and variables alone, over some number of strings
 abbrev pub IsPlain : Module → Type 0
 IsPlain m = (names : ℕ) × (is_plain_module names m ≡ true)
 

@@ -1,4 +1,4 @@
-//! The run of one worker over modules and goals of constants and variables alone, with its report.
+//! The run of one worker over modules and goals of strings and variables alone, with its report.
 #![tactic(auto)]
 
 mod children;

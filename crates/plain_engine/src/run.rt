@@ -12,7 +12,7 @@ use fcp_model::{GoalText, Limits, Loaded, Names, NoMemory};
 use std::alloc::Global;
 
 /// Runs a goal with one worker within limits and with no controls, and gives the run's report. The module and the goal
-/// are of constants and variables alone, and each item calls a procedure of the module. `Err` is want of memory.
+/// are of strings and variables alone, and each item calls a procedure of the module. `Err` is want of memory.
 pub fn run_goal(
     alloc: Global,
     names: &Names,

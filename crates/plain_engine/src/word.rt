@@ -13,7 +13,7 @@ pub enum Variable {
     Own(u8),
 }
 
-/// A term of constants and variables alone, at run time.
+/// A term of strings and variables alone, at run time.
 #[derive(Clone, Copy, Debug, PartialEq, Eq)]
 pub enum Word {
     /// A string.

@@ -333,11 +333,12 @@ fn the_numbers_of_specs(rt: HostRuntime) -> Result<(), Fail> {
     Ok(())
 }
 
-/// 100,000 elements in one pair of brackets.
+/// 100,000 and 500,000 elements in one pair of brackets.
 #[test]
 fn long_lists(rt: HostRuntime) -> Result<(), Fail> {
     let rows = [
         ("p([~99999 a,~a]).", "p([~99999 a,~a]).\n"),
+        ("p([~499999 a,~a]).", "p([~499999 a,~a]).\n"),
         ("p([~99999 a,~a|T]).", "p([~99999 a,~a|V1]).\n"),
         (
             "p:-q([~99999 1,~1]).q(X).",

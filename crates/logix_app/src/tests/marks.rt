@@ -200,3 +200,51 @@ fn mod_is_a_string_and_an_operator(rt: HostRuntime) -> Result<(), Fail> {
     }
     Ok(())
 }
+
+/// A sign of an item or an operator has an operand on each side.
+#[test]
+fn signs_have_two_sides(rt: HostRuntime) -> Result<(), Fail> {
+    let rows = [
+        (b"p:-X==.".as_slice(), b"logix: module fault 5 at 6\n".as_slice()),
+        (b"p:-==X.", b"logix: module fault 5 at 3\n"),
+        (b"p:-X\\==.", b"logix: module fault 5 at 7\n"),
+        (b"p:-\\==X.", b"logix: module fault 5 at 3\n"),
+        (b"p:-X=<.", b"logix: module fault 5 at 6\n"),
+        (b"p:-=<X.", b"logix: module fault 5 at 3\n"),
+        (b"p:-X>.", b"logix: module fault 5 at 5\n"),
+        (b"p:->X.", b"logix: module fault 5 at 3\n"),
+        (b"p:-X>=.", b"logix: module fault 5 at 6\n"),
+        (b"p:->=X.", b"logix: module fault 5 at 3\n"),
+        (b"p:-X=:=.", b"logix: module fault 5 at 7\n"),
+        (b"p:-=:=X.", b"logix: module fault 5 at 3\n"),
+        (b"p:-X=\\=.", b"logix: module fault 5 at 7\n"),
+        (b"p:-=\\=X.", b"logix: module fault 5 at 3\n"),
+        (b"p:-X:=1**2.", b"logix: module fault 5 at 8\n"),
+        (b"p:-X:=1//2.", b"logix: module fault 5 at 8\n"),
+    ];
+    for (file, text) in rows {
+        assert!(rt; shows(rt.alloc(), file, text)?, "{file:?}");
+    }
+    Ok(())
+}
+
+/// The marks of an attribute, one missing and one too many.
+#[test]
+fn attributes_have_their_marks(rt: HostRuntime) -> Result<(), Fail> {
+    let rows = [
+        (
+            b"-export([/0]).".as_slice(),
+            b"logix: module fault 5 at 9\n".as_slice(),
+        ),
+        (b"-export([p//0]).", b"logix: module fault 5 at 11\n"),
+        (b"-export([p/0].", b"logix: module fault 5 at 13\n"),
+        (b"-export[p/0]).", b"logix: module fault 5 at 7\n"),
+        (b"-module(a.", b"logix: module fault 5 at 9\n"),
+        (b"-module((a)).", b"logix: module fault 5 at 8\n"),
+        (b"-module(a)..", b"logix: module fault 5 at 11\n"),
+    ];
+    for (file, text) in rows {
+        assert!(rt; shows(rt.alloc(), file, text)?, "{file:?}");
+    }
+    Ok(())
+}
