@@ -37,19 +37,23 @@ mutual
 
 -- ---- signs
 
+-- the word of a sign between products
 abbrev pub sum_word : SumSign → Word
 sum_word (add at) = W.Operator Add at
 sum_word (sub at) = W.Operator Sub at
 
+-- what it stands for
 abbrev pub sum_op : SumSign → ArithOp
 sum_op (add at) = Add
 sum_op (sub at) = Sub
 
+-- the word of a sign between factors
 abbrev pub product_word : ProductSign → Word
 product_word (mul at) = W.Operator Mul at
 product_word (div at) = W.Operator Div at
 product_word (rem s at) = W.Str s F.Mod at
 
+-- what it stands for
 abbrev pub product_op : ProductSign → ArithOp
 product_op (mul at) = Mul
 product_op (div at) = Div

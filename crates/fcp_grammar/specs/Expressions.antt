@@ -17,9 +17,11 @@ abbrev pub both_nothing : Left → Left → Bool
 both_nothing Nothing Nothing = true
 both_nothing _ _ = false
 
+-- nothing of the expression was read
 abbrev pub is_nothing : Level → Bool
 is_nothing level = both_nothing level.sum level.product
 
+-- an operator with its operands
 abbrev pub operation : ArithOp → Expr → Expr → Expr
 operation op a b = E.Op op a b
 

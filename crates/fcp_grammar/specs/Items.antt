@@ -32,9 +32,11 @@ abbrev pub fresh_by : List Level → LeftSide → Level → Bool
 fresh_by [] L.Nothing level = is_nothing level
 fresh_by _ _ level = false
 
+-- nothing of the item was read
 abbrev pub is_fresh : Sums → Bool
 is_fresh s = fresh_by s.groups s.left s.level
 
+-- an item of which nothing was read, at this place
 abbrev pub fresh_at : ℕ → Sums
 fresh_at at = sums_of at L.Nothing [] nothing 0
 
@@ -53,6 +55,7 @@ call_item at (P.Named a s) = Ends (record { at = at; call = User s [] })
 call_item at (P.Called a s ts) = Ends (record { at = at; call = User s ts })
 call_item at _ = Refused
 
+-- the left side and the sign of two terms that are made equal or compared
 abbrev pub equation : ℕ → Term → TermSign → Equation
 equation at t sign = record { at = at; left = t; sign = sign }
 
@@ -79,6 +82,7 @@ behind_first s phase W.NotSame = equate s.at phase NotSame
 behind_first s phase W.Assign = assign s.at phase
 behind_first s phase w = behind_leaf s phase w
 
+-- a word behind a whole term of an expression
 unfoldable pub behind_whole : Sums → Phase → Word → Turn
 behind_whole s phase w = if is_fresh s then behind_first s phase w else behind_leaf s phase w
 
@@ -88,22 +92,27 @@ behind_whole s phase w = if is_fresh s then behind_first s phase w else behind_l
 abbrev pub inside : Sums → Sums
 inside s = sums_of s.at s.left (s.level ∷ s.groups) nothing s.operators
 
+-- what a word within an expression comes to, by what it comes to within its term
 unfoldable pub sum_told : Bool → Sums → TermAt → Word → Told → Turn
 sum_told first s x w (R.Read y) = Goes (S.Sum s y) (is_large first x w)
 sum_told first s x w (R.Whole phase) = behind_whole s phase w
 sum_told first s x w R.Refused = if opens_group x w then Goes (S.Sum (inside s) start) first else Refused
 
+-- one word within an expression
 unfoldable pub step_sum : Bool → Sums → TermAt → Word → Turn
 step_sum mark s x w = sum_told (is_fresh s && mark) s x w (step x w)
 
+-- the item, once its right side is read
 abbrev pub equation_item : Equation → Term → Item
 equation_item e u = record { at = e.at; call = sign_call e.sign e.left u }
 
+-- what a word within a right side comes to, by what it comes to within its term
 abbrev pub equal_told : Equation → TermAt → Word → Told → Turn
 equal_told e x w (R.Read y) = Goes (S.Equal e y) (is_large false x w)
 equal_told e x w (R.Whole phase) = if is_end w then Ends (equation_item e (term_of phase)) else Refused
 equal_told e x w R.Refused = Refused
 
+-- one word within the right side of a sign between terms
 unfoldable pub step_equal : Equation → TermAt → Word → Turn
 step_equal e x w = equal_told e x w (step x w)
 

@@ -20,6 +20,7 @@ use Rattle.fcp_grammar.specs.Expressions.{nothing, whole, before}
 use Rattle.fcp_grammar.specs.ExpressionGrammar.{over_operators}
 pub use Rattle.fcp_grammar.specs.ExpressionGrammar.{more}
 
+-- where the reading of an expression stands
 abbrev pub sums_of : ℕ → LeftSide → List Level → Level → ℕ → Sums
 sums_of at left groups level n = record { at = at; left = left; groups = groups; level = level; operators = n }
 
@@ -32,6 +33,7 @@ abbrev pub closes : ℕ → LeftSide → List Level → Expr → ℕ → Turn
 closes at left [] e n = Refused
 closes at left (outer ∷ groups) e n = Goes (S.Closed (sums_of at left groups outer n) e) false
 
+-- an operand with a `)` behind it
 abbrev pub behind_close : Sums → Expr → Turn
 behind_close s e = closes s.at s.left s.groups (whole s.level e) s.operators
 
@@ -40,6 +42,7 @@ abbrev pub compares : ℕ → LeftSide → List Level → CompareOp → Expr →
 compares at L.Nothing [] op e n = Goes (S.Sum (sums_of at (L.Compared e op) [] nothing n) start) false
 compares at _ _ op e n = Refused
 
+-- an operand with a comparison behind it
 abbrev pub behind_comparison : Sums → CompareOp → Expr → Turn
 behind_comparison s op e = compares s.at s.left s.groups op (whole s.level e) s.operators
 
@@ -49,9 +52,11 @@ ends at (L.Compared l op) [] e = Ends (record { at = at; call = Compare op l e }
 ends at (L.Assigned t) [] e = Ends (record { at = at; call = Assign t e })
 ends at _ _ e = Refused
 
+-- an operand with which the item ends
 abbrev pub behind_item : Sums → Expr → Turn
 behind_item s e = ends s.at s.left s.groups (whole s.level e)
 
+-- a word behind an operand
 unfoldable pub behind_operand : Sums → Expr → Word → Turn
 behind_operand s e (W.Operator Mod at) = Refused
 behind_operand s e (W.Operator op at) = behind_operator s op e

@@ -14,9 +14,11 @@ use Rattle.fcp_grammar.specs.declared.terms.Told.TheVariants.{Read, Whole, Refus
 use Rattle.fcp_grammar.specs.Values.{listed, tuple_of, is_empty}
 pub use Rattle.fcp_grammar.specs.Values.{over}
 
+-- the term goes on
 abbrev pub reads : List Frame → Phase → Told
 reads stack phase = Read (record { stack = stack; phase = phase })
 
+-- the first word of a term
 unfoldable pub begin : List Frame → Word → Told
 begin stack (W.Int n at) = reads stack (P.Have at (T.Int n))
 begin stack (W.Str s form at) = reads stack (P.Named at s)
@@ -25,6 +27,7 @@ begin stack (W.SquareOpen at) = reads stack (P.Opened at)
 begin stack (W.CurlyOpen at) = reads (F.Braces at [] ∷ stack) P.Want
 begin stack _ = Refused
 
+-- the term that is whole where this phase is the last
 unfoldable pub term_of : Phase → Term
 term_of (P.Named at s) = T.Str s
 term_of (P.Called at s ts) = tuple_of s ts
@@ -32,6 +35,7 @@ term_of (P.Variable at k) = T.Var k
 term_of (P.Have at t) = t
 term_of _ = T.Nil
 
+-- a word behind a whole term within brackets
 unfoldable pub in_frame : Frame → List Frame → Term → Word → Told
 in_frame (F.Call at s done) stack t W.Comma = reads (F.Call at s (done ++ t ∷ []) ∷ stack) P.Want
 in_frame (F.Call at s done) stack t W.RoundClose = reads stack (P.Called at s (done ++ t ∷ []))
@@ -43,10 +47,12 @@ in_frame (F.Braces at done) stack t W.Comma = reads (F.Braces at (done ++ t ∷ 
 in_frame (F.Braces at done) stack t W.CurlyClose = reads stack (P.Have at (T.Tuple (done ++ t ∷ [])))
 in_frame _ stack t _ = Refused
 
+-- a word behind a whole term
 unfoldable pub behind : List Frame → Phase → Word → Told
 behind [] phase word = Whole phase
 behind (frame ∷ stack) phase word = in_frame frame stack (term_of phase) word
 
+-- one word, by the phase
 unfoldable pub step_by : List Frame → Phase → Word → Told
 step_by stack P.Want word = begin stack word
 step_by stack (P.Opened at) W.SquareClose = reads stack (P.Have at T.Nil)
@@ -55,6 +61,7 @@ step_by stack (P.Named at s) (W.RoundOpen _) = reads (F.Call at s [] ∷ stack) 
 step_by stack (P.Variable at k) W.Question = reads stack (P.Have at (T.Ro k))
 step_by stack phase word = behind stack phase word
 
+-- one word
 abbrev pub step : TermAt → Word → Told
 step at word = step_by at.stack at.phase word
 
@@ -67,6 +74,7 @@ full outside (F.Call at s done ∷ stack) = over done
 full outside (F.Braces at done ∷ stack) = over done
 full outside (_ ∷ stack) = false
 
+-- a term is still to begin
 abbrev pub is_wanted : Phase → Bool
 is_wanted P.Want = true
 is_wanted _ = false
@@ -76,9 +84,11 @@ abbrev pub large_by : Bool → Word → Bool
 large_by m (W.Var k at) = m || nat_lt 250 k
 large_by m _ = m
 
+-- the word is one too many
 unfoldable pub is_large : Bool → TermAt → Word → Bool
 is_large outside at word = large_by (is_wanted at.phase && full outside at.stack) word
 
+-- the place of the term that was begun last
 abbrev pub place_of : Phase → ℕ
 place_of P.Want = 0
 place_of (P.Opened at) = at
@@ -87,9 +97,11 @@ place_of (P.Called at s ts) = at
 place_of (P.Variable at k) = at
 place_of (P.Have at t) = at
 
+-- a term of which nothing was read
 abbrev pub start : TermAt
 start = record { stack = []; phase = P.Want }
 
+-- the word opens parentheses around an expression
 abbrev pub opens_group : TermAt → Word → Bool
 opens_group at (W.RoundOpen o) = is_wanted at.phase && is_empty at.stack
 opens_group at _ = false

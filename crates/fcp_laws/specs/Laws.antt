@@ -34,6 +34,7 @@ OneWorkerMakesOneRun = (m : Program) (limits : Limits) (s : State) (controls : L
 abbrev pub AStartIsOrdered : Type 0
 AStartIsOrdered = (vars : ℕ) (gs : List (Goal ℕ)) → IsOrdered (start vars gs)
 
+-- each stand to which a run from an ordered state comes is sound
 abbrev pub StandsAreSound : Type 0
 StandsAreSound = (m : Program) (limits : Limits) (s : State) (controls : List Control) (evs : List Event) (at : Stand) → IsOrdered s → Leads m limits (begin s controls) evs at → IsSoundStand at
 
@@ -52,6 +53,7 @@ pub record IsLawfulRun (m : Program) (limits : Limits) (s : State) (controls : L
   pub moves : at.moves ≡ moves_in (entries_of evs)
   pub cells : at.cells ≡ cells_of evs
 
+-- a run of one worker is a run by the definitions
 abbrev pub OneWorkerRunsAreRuns : Type 0
 OneWorkerRunsAreRuns = (m : Program) (limits : Limits) (s : State) (controls : List Control) (evs : List Event) (at : Stand) → IsOrdered s → s.mode ≡ is_open → AreLawful controls → IsOneWorkerRun m limits s controls evs at → IsLawfulRun m limits s controls evs at
 

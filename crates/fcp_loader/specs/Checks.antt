@@ -14,6 +14,7 @@ use Rattle.fcp_loader.specs.Firsts.{first_of}
 use Rattle.fcp_loader.specs.Leaves.{leaves_in}
 use Rattle.fcp_loader.specs.TestItems.{is_reserved, is_test}
 
+-- a fault of a kind at a place
 abbrev pub fault_of : Code → ℕ → Fault
 fault_of code at = record { code = code; at = at }
 

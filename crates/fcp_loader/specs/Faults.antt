@@ -39,6 +39,7 @@ unknown_tests cs = places_where (λ i. not (is_test i.call)) (flat_map (λ c. c.
 abbrev pub unknown_items : Module → List Item → List ℕ
 unknown_items m items = places_where (λ i. is_none (number_of_item m i)) items
 
+-- the items of bodies that name no procedure
 abbrev pub unknown_in_bodies : Module → List ℕ
 unknown_in_bodies m = unknown_items m (flat_map (λ c. c.body) m.clauses)
 
@@ -46,6 +47,7 @@ unknown_in_bodies m = unknown_items m (flat_map (λ c. c.body) m.clauses)
 abbrev pub is_unknown_export : Module → Export → Bool
 is_unknown_export m e = is_none (position (same_head (record { name = e.name; arity = e.arity })) (heads_in m.clauses))
 
+-- the elements of an `-export` that name no procedure
 abbrev pub unknown_exports : Module → List ℕ
 unknown_exports m = map (λ e. e.at) (filter (is_unknown_export m) (unwrap_or m.exports []))
 

@@ -19,6 +19,7 @@ operand_step (Term-F.Tuple ts) = false
 operand_step (Term-F.Var k) = true
 operand_step (Term-F.Ro k) = true
 
+-- the term is a number or a variable
 abbrev pub is_operand : Term → Bool
 is_operand = fold-Term Bool operand_step
 

@@ -9,14 +9,17 @@ use Rattle.fcp_model.specs.declared.run.Control.{Control}
 use Rattle.fcp_model.specs.Events.{Event}
 use Rattle.fcp_model.specs.Runs.{entries_of, cells_of}
 
+-- the entry is a commit
 abbrev pub is_commit : Entry → Bool
 is_commit (Commit p k) = true
 is_commit _ = false
 
+-- the entry is a fail
 abbrev pub is_fail : Entry → Bool
 is_fail (Fail p) = true
 is_fail _ = false
 
+-- the entry was asked for by a control
 abbrev pub is_control : Entry → Bool
 is_control Snapshot = true
 is_control Suspend = true
@@ -28,12 +31,15 @@ is_control _ = false
 abbrev pub is_move : Entry → Bool
 is_move e = not (is_control e)
 
+-- how many entries are commits
 abbrev pub commits_in : List Entry → ℕ
 commits_in es = count_by is_commit es
 
+-- how many entries are moves
 abbrev pub moves_in : List Entry → ℕ
 moves_in es = count_by is_move es
 
+-- 1 for a yes
 abbrev pub one : Bool → ℕ
 one b = if b then 1 else 0
 
@@ -52,6 +58,7 @@ pub record IsWithin (limits : Limits) (evs : List Event) : Type 0 where
   pub counts : KeepsCounts limits 0 0 (entries_of evs)
   pub cells : cells_of evs ≤ limits.cells
 
+-- the entry that a control asks for
 abbrev pub act_entry : Act → Entry
 act_entry act.Snapshot = Snapshot
 act_entry act.Suspend = Suspend

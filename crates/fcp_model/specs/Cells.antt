@@ -46,6 +46,7 @@ clause_used m true' k = None
 clause_used m (unifies t u) k = None
 clause_used m (assigns t e) k = None
 
+-- the cells of a commit by a clause, or of a built-in process
 abbrev pub commit_cells : Option Clause → ℕ
 commit_cells None = 1
 commit_cells (Some c) = clause_cells c

@@ -14,6 +14,7 @@ pub data Decision : Type 0 where
   decides_fail : List Variable → Decision
   waits_on : List Variable → Decision
 
+-- behind the try of clause k: it commits, or the next clause is tried, with the reads of all tries so far
 abbrev pub choose_on : (Bool → List Variable → Option Decision) → ℕ → Bool → List Variable → Option Tried → Option Decision
 choose_on next k behind rs None = None
 choose_on next k behind rs (Some (succeeds bs qs)) = Some (commits k bs (rs ++ qs))
@@ -26,6 +27,7 @@ abbrev pub choose : ℕ → Bindings → List (Term Variable) → ℕ → Bool �
 choose n s args k behind rs [] = Some (if behind then decides_fail rs else waits_on rs)
 choose n s args k behind rs (c ∷ cs) = choose_on (λ b qs. choose n s args (suc k) b qs cs) k behind rs (attempt n s c args behind)
 
+-- the decision of a built-in process that unifies
 abbrev pub built_in : List Variable → Ended → Decision
 built_in rs (done bs qs) = commits 0 bs (rs ++ qs)
 built_in rs (clash qs) = decides_fail (rs ++ qs)

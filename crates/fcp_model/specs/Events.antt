@@ -38,9 +38,11 @@ is_woken bs (waiting ps) = binds_one bs ps
 is_woken bs ready = false
 is_woken bs finished = false
 
+-- the process, Ready again
 abbrev pub made_ready : Process → Process
 made_ready p = record p { status = ready }
 
+-- the process behind a commit that made these bindings
 abbrev pub wake : Bindings → Process → Process
 wake bs p = if is_woken bs p.status then made_ready p else p
 
@@ -52,10 +54,12 @@ woken_by bs ps = map made_ready (filter (λ p. is_woken bs p.status) ps)
 abbrev pub with_status : Proc → Status → Process → Process
 with_status named st p = if is_same_process p.name named then record p { status = st } else p
 
+-- how many variables a clause has; a built-in process makes no place
 abbrev pub vars_of : Option Clause → ℕ
 vars_of None = 0
 vars_of (Some c) = c.vars
 
+-- the body of a clause; a built-in process makes no child
 abbrev pub body_of : Option Clause → List (Goal ℕ)
 body_of None = []
 body_of (Some c) = c.body
@@ -74,6 +78,7 @@ after_commit s p c bs = record {
   mode = s.mode;
 }
 
+-- the state behind the hang of a process on these places
 abbrev pub after_hang : State → Proc → List Place → State
 after_hang s p ps = record s { entries = suc s.entries; processes = map (with_status p (waiting ps)) s.processes }
 

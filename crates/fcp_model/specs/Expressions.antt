@@ -7,10 +7,12 @@ use Rattle.fcp_model.specs.Places.{Variable}
 use Rattle.fcp_model.specs.Terms.{Term, number, rename, Bindings}
 use Rattle.fcp_model.specs.Value.{Look, writable, read_only, solid, value}
 
+-- an expression: a term as a leaf, or an operator with two operands
 pub data Expr (V : Type 0) : Type 0 where
   leaf : Term V → Expr V
   op : ArithOp → Expr V → Expr V → Expr V
 
+-- the expression with each variable as f gives it
 abbrev pub rename_expr : {V W : Type 0} → (V → W) → Expr V → Expr W
 rename_expr f (leaf t) = leaf (rename f t)
 rename_expr f (op o a b) = op o (rename_expr f a) (rename_expr f b)
@@ -21,6 +23,7 @@ pub data Evaluated : Type 0 where
   bad : Evaluated
   unready : List Variable → Evaluated
 
+-- what a leaf gives, by its value
 abbrev pub value_of_leaf : Look → Evaluated
 value_of_leaf (writable p) = unready (p ∷ [])
 value_of_leaf (read_only p) = unready (p ∷ [])
@@ -31,6 +34,7 @@ value_of_leaf (solid _) = bad
 abbrev pub checked : ℤ → Evaluated
 checked z = if int_le (negsuc 9223372036854775807) z && int_le z (pos 9223372036854775807) then gives z else bad
 
+-- a quotient or a rest; a division by 0 is bad
 abbrev pub divided : (ℤ → ℤ → ℤ) → ℤ → ℤ → Evaluated
 divided f y z = if int_eq z (pos 0) then bad else checked (f y z)
 

@@ -18,6 +18,7 @@ number_of_call m (Same a b) = None
 number_of_call m (NotSame a b) = None
 number_of_call m (Compare op d e) = None
 
+-- the number of the procedure that an item names
 abbrev pub number_of_item : Module → Item → Option ℕ
 number_of_item m i = number_of_call m i.call
 

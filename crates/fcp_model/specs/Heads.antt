@@ -7,9 +7,11 @@ use Rattle.fcp_model.specs.declared.source.Export.{Export}
 use Rattle.fcp_model.specs.declared.source.Module.{Module}
 use Rattle.fcp_model.specs.declared.loaded.Head.{Head}
 
+-- the same procedure: the same name with as many arguments
 abbrev pub same_head : Head → Head → Bool
 same_head g h = nat_eq g.name.0 h.name.0 && nat_eq g.arity h.arity
 
+-- the procedure to which a clause belongs
 abbrev pub head_of : Clause → Head
 head_of c = record { name = c.head; arity = length c.args }
 
@@ -45,6 +47,7 @@ pub record IsIndex (m : Module) (heads : List Head) (places : List (List ℕ)) :
   pub all_places : places ≡ positions_in m.clauses
   pub short : All (λ c. length c.args < 2 ^ 32) m.clauses
 
+-- an element of an `-export` names the procedure
 abbrev pub same_export : Head → Export → Bool
 same_export h e = nat_eq e.name.0 h.name.0 && nat_eq e.arity h.arity
 

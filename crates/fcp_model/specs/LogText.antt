@@ -26,6 +26,7 @@ bindings_text n names bound entry ((made p, t) ∷ bs) =
     (bindings_text n names bound entry bs)
 bindings_text n names bound entry ((own k, t) ∷ bs) = bindings_text n names bound entry bs
 
+-- processes by name, each behind a space
 abbrev pub processes_text : List Proc → Bytes
 processes_text ps = flat_map (λ p. codes " " ++ process_text p) ps
 
@@ -34,6 +35,7 @@ abbrev pub woken_text : List Proc → Bytes
 woken_text [] = []
 woken_text (p ∷ ps) = codes " wakes" ++ processes_text (p ∷ ps)
 
+-- places by name, each behind a space
 abbrev pub places_text : List Place → Bytes
 places_text ps = flat_map (λ p. codes " " ++ place_text p) ps
 
@@ -53,6 +55,7 @@ entry_text n names ev Abort = Some (codes "abort")
 abbrev pub event_line : ℕ → List Bytes → Event → Option Bytes
 event_line n names ev = option_map (λ x. decimal ev.after.entries ++ codes " " ++ x ++ codes "\n") (entry_text n names ev ev.entry)
 
+-- the lines of some entries, in order
 abbrev pub event_lines : ℕ → List Bytes → List Event → Option Bytes
 event_lines n names [] = Some []
 event_lines n names (ev ∷ evs) = both_texts (event_line n names ev) (event_lines n names evs)

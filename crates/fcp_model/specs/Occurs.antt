@@ -14,11 +14,13 @@ then_found rs None = None
 then_found rs (Some (hit qs)) = Some (hit (rs ++ qs))
 then_found rs (Some (miss qs)) = Some (miss (rs ++ qs))
 
+-- the first answer where it is a hit, and else the second with the reads of both
 abbrev pub or_else : Option Found → Option Found → Option Found
 or_else None g = None
 or_else (Some (hit rs)) g = Some (hit rs)
 or_else (Some (miss rs)) g = then_found rs g
 
+-- an answer with its reads
 abbrev pub found : Bool → List Variable → Option Found
 found true rs = Some (hit rs)
 found false rs = Some (miss rs)
@@ -44,6 +46,7 @@ abbrev pub behind_leaf : (Term Variable → Option Found) → Variable → Varia
 behind_leaf go p q None = found (is_same p q) (q ∷ [])
 behind_leaf go p q (Some t) = go t
 
+-- whether the variable q is p, or leads to a term in which p occurs; None where n steps are too few
 abbrev pub leaf_is : ℕ → Bindings → Variable → Variable → Option Found
 leaf_is zero s p q = None
 leaf_is (suc n) s p q = behind_leaf (walk (leaf_is n s p)) p q (find s q)

@@ -27,15 +27,18 @@ pub data Ruling : Type 0 where
   passes : Stand → Ruling
   makes : Event → Stand → Ruling
 
+-- no entry is legal any more
 abbrev pub is_over : Mode → Bool
 is_over is_failed = true
 is_over is_aborted = true
 is_over _ = false
 
+-- the next control is to be made at so many moves
 abbrev pub is_due : List Control → ℕ → Bool
 is_due [] moves = false
 is_due (c ∷ cs) moves = nat_eq c.after moves
 
+-- the mode behind a control
 abbrev pub mode_after : Act → Mode → Mode
 mode_after Snapshot mode = mode
 mode_after Suspend mode = is_held
@@ -67,6 +70,7 @@ front_ruling limits at p rest ev = elim (nat_lt limits.cells (at.cells + ev.cell
   | _ ↦ makes ev (after_event at rest ev)
 ]
 
+-- what the rules on the queue and the limits say, where no control is due and the run is open
 abbrev pub queue_ruling : ℕ → Program → Limits → Stand → List Process → Option Ruling
 queue_ruling n m limits at [] = Some ends
 queue_ruling n m limits at (p ∷ rest) = elim (nat_le limits.commits at.commits || nat_le limits.moves at.moves || nat_le (length at.queue) at.passed) [
@@ -90,6 +94,7 @@ ruling n m limits at = elim (is_over at.state.mode) [
   ]
 ]
 
+-- a ruling, and then what comes behind it
 abbrev pub followed : (Stand → Option (List Event × Stand)) → Stand → Option Ruling → Option (List Event × Stand)
 followed go at None = None
 followed go at (Some ends) = Some ([], at)

@@ -18,6 +18,7 @@ IsTooLarge m s left p ready = (d : Decision) × Decides m s.bound p.goal d × (l
 IsTooLarge m s left p (waiting ps) = Unit {0}
 IsTooLarge m s left p finished = Unit {0}
 
+-- that holds of each Ready one among some processes
 abbrev pub AllTooLarge : Program → State → ℕ → List Process → Type 0
 AllTooLarge m s left [] = Unit {0}
 AllTooLarge m s left (p ∷ ps) = IsTooLarge m s left p p.status × AllTooLarge m s left ps

@@ -6,6 +6,7 @@ use Rattle.fcp_model.specs.Terms.{Term, number, string, nil, cons, tuple, var, r
 use Rattle.fcp_model.specs.Value.{Look, writable, read_only, solid, value}
 use Rattle.fcp_model.specs.Occurs.{Found, hit, miss, occurs}
 
+-- two terms that are to be made equal
 abbrev pub Pair : Type 0
 Pair = Term Variable × Term Variable
 
@@ -18,6 +19,7 @@ pub data Step : Type 0 where
   -- the pairs of the parts come next
   parts : List Pair → Step
 
+-- the parts of two tuples pair by pair, or None where they have not equally many
 abbrev pub both_parts : Terms Variable → Terms Variable → Option (List Pair)
 both_parts none none = Some []
 both_parts (more a as') (more b bs) = elim (both_parts as' bs) [ None ↦ None | Some ps ↦ Some ((a, b) ∷ ps) ]
@@ -33,11 +35,13 @@ alike (cons a b) (cons c d) = Some ((a, c) ∷ (b, d) ∷ [])
 alike (tuple ts) (tuple us) = both_parts ts us
 alike _ _ = None
 
+-- the step for two terms that are no variables, by the pairs of their parts
 abbrev pub part_step : Option (List Pair) → Step
 part_step None = clashes
 part_step (Some []) = nothing
 part_step (Some (p ∷ ps)) = parts (p ∷ ps)
 
+-- what two terms that are no variables come to
 abbrev pub compare : Term Variable → Term Variable → Step
 compare t u = part_step (alike t u)
 
@@ -46,6 +50,7 @@ pub record Treated : Type 0 where
   pub step : Step
   pub reads : List Variable
 
+-- a step with its reads
 abbrev pub treated : Step → List Variable → Option Treated
 treated st rs = Some (record { step = st; reads = rs })
 
@@ -67,6 +72,7 @@ table n s (solid t) (writable p) = bind_solid p t (occurs n s p t)
 table n s (read_only p) (solid t) = treated waits (p ∷ [])
 table n s (solid t) (read_only p) = treated waits (p ∷ [])
 
+-- a function of two values, where both were found
 abbrev pub both_looks : {A : Type 0} → (Look → Look → Option A) → Option Look → Option Look → Option A
 both_looks f None m = None
 both_looks f (Some l) None = None
@@ -77,6 +83,7 @@ abbrev pub first_of : Term Variable → Option ℕ
 first_of (first k) = Some k
 first_of t = None
 
+-- a pair by whether its second side is a first occurrence
 abbrev pub pair_on : ℕ → Bindings → Term Variable → Term Variable → Option ℕ → Option Treated
 pair_on n s a b (Some k) = treated (binds (own k) a) []
 pair_on n s a b None = both_looks (table n s) (value n s a) (value n s b)

@@ -11,6 +11,7 @@ place n k = record { entry = n; number = k }
 abbrev pub proc : ℕ → ℕ → Proc
 proc n k = record { entry = n; number = k }
 
+-- the same entry and the same number
 abbrev pub is_same_place : Place → Place → Bool
 is_same_place p q = nat_eq p.entry q.entry && nat_eq p.number q.number
 
@@ -18,6 +19,7 @@ is_same_place p q = nat_eq p.entry q.entry && nat_eq p.number q.number
 abbrev pub is_older_place : Place → Place → Bool
 is_older_place p q = nat_lt p.entry q.entry || (nat_eq p.entry q.entry && nat_lt p.number q.number)
 
+-- the same entry and the same number
 abbrev pub is_same_process : Proc → Proc → Bool
 is_same_process p q = nat_eq p.entry q.entry && nat_eq p.number q.number
 
@@ -30,6 +32,7 @@ pub data Variable : Type 0 where
 abbrev pub placed : ℕ → ℕ → Variable
 placed n k = made (place n k)
 
+-- the same place, or the same variable of the clause
 abbrev pub is_same : Variable → Variable → Bool
 is_same (made p) (made q) = is_same_place p q
 is_same (own k) (own l) = nat_eq k l

@@ -28,6 +28,7 @@ pub record Procedure : Type 0 where
 abbrev pub Program : Type 0
 Program = List Procedure
 
+-- the goal with each variable as f gives it
 abbrev pub rename_goal : {V W : Type 0} → (V → W) → Goal V → Goal W
 rename_goal f (user p ts) = user p (map (rename f) ts)
 rename_goal f true' = true'

@@ -19,6 +19,7 @@ abbrev mutual
   MentionsOne q none = ⊥
   MentionsOne q (more t ts) = Mentions q t ⊎ MentionsOne q ts
 
+-- bindings without a cycle: a bound variable stands above each variable of its term
 pub record Ranked (s : Bindings) : Type 0 where
   pub rank : Variable → ℕ
   pub falls : (p q : Variable) (t : Term Variable) → find s p ≡ Some t → Mentions q t → rank q < rank p

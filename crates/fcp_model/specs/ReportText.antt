@@ -21,6 +21,7 @@ use Rattle.fcp_model.specs.Spelling.{Bytes, string_text, name_at, process_text}
 use Rattle.fcp_model.specs.TermText.{cut_text}
 use Rattle.fcp_model.specs.LogText.{both_texts, log_text, places_text}
 
+-- the word of an outcome
 abbrev pub outcome_word : Outcome → Bytes
 outcome_word Failed = codes "failed"
 outcome_word Aborted = codes "aborted"
@@ -40,16 +41,19 @@ abbrev pub variable_lines : ℕ → List Bytes → Bindings → ℕ → List (Op
 variable_lines n names bound k [] = Some []
 variable_lines n names bound k (v ∷ vs) = both_texts (variable_line n names bound k v) (variable_lines n names bound (k + 1) vs)
 
+-- the word of a control
 abbrev pub act_word : Act → Bytes
 act_word act.Snapshot = codes "snapshot"
 act_word act.Suspend = codes "suspend"
 act_word act.Resume = codes "resume"
 act_word act.Abort = codes "abort"
 
+-- a line for each control that was not made
 abbrev pub not_reached_lines : List Control → Bytes
 not_reached_lines [] = []
 not_reached_lines (c ∷ cs) = codes "not reached after " ++ decimal c.after ++ codes " " ++ act_word c.act ++ codes "\n" ++ not_reached_lines cs
 
+-- an operator with a space on each side
 abbrev pub operator_text : ArithOp → Bytes
 operator_text Add = codes " + "
 operator_text Sub = codes " - "
@@ -67,10 +71,12 @@ abbrev mutual
   operand_text n names s (leaf t) = cut_text n names s 1024 t
   operand_text n names s (op o a b) = both_texts (Some (codes "(")) (both_texts (both_texts (operand_text n names s a) (both_texts (Some (operator_text o)) (operand_text n names s b))) (Some (codes ")")))
 
+-- the arguments behind the first one, each by value and cut after 1,024 nodes
 abbrev pub more_arguments : ℕ → List Bytes → Bindings → List (Term Variable) → Option Bytes
 more_arguments n names s [] = Some []
 more_arguments n names s (t ∷ ts) = both_texts (option_map (λ x. codes "," ++ x) (cut_text n names s 1024 t)) (more_arguments n names s ts)
 
+-- the arguments of a call in parentheses; a call without any has none
 abbrev pub arguments_text : ℕ → List Bytes → Bindings → List (Term Variable) → Option Bytes
 arguments_text n names s [] = Some []
 arguments_text n names s (t ∷ ts) = both_texts (option_map (λ x. codes "(" ++ x) (cut_text n names s 1024 t)) (option_map (λ x. x ++ codes ")") (more_arguments n names s ts))
@@ -86,11 +92,13 @@ goal_text n names m s true' = Some (codes "true")
 goal_text n names m s (unifies t u) = both_texts (cut_text n names s 1024 t) (option_map (λ x. codes " = " ++ x) (cut_text n names s 1024 u))
 goal_text n names m s (assigns t e) = both_texts (cut_text n names s 1024 t) (option_map (λ x. codes " := " ++ x) (expr_text n names s e))
 
+-- what a line says of a process before its goal
 abbrev pub status_text : Status → Bytes
 status_text ready = codes " ready"
 status_text (waiting ps) = codes " waits" ++ places_text ps
 status_text finished = codes " done"
 
+-- the line of a process: its name, its status and its goal
 abbrev pub process_line : ℕ → List Bytes → Program → Bindings → Process → Option Bytes
 process_line n names m s p = option_map (λ x. process_text p.name ++ status_text p.status ++ codes ": " ++ x ++ codes "\n") (goal_text n names m s p.goal)
 
@@ -114,6 +122,7 @@ abbrev pub snapshots_at : ℕ → List Bytes → List (Option Sym) → Program �
 snapshots_at n names variables m s Snapshot = snapshot_text n names variables m s
 snapshots_at n names variables m s _ = Some []
 
+-- the snapshots of a run, in order
 abbrev pub snapshot_texts : ℕ → List Bytes → List (Option Sym) → Program → List Event → Option Bytes
 snapshot_texts n names variables m [] = Some []
 snapshot_texts n names variables m (ev ∷ evs) = both_texts (snapshots_at n names variables m ev.after ev.entry) (snapshot_texts n names variables m evs)

@@ -16,6 +16,7 @@ is_same_move (Hang p) (Hang q) = is_same_process p q
 is_same_move (Fail p) (Fail q) = is_same_process p q
 is_same_move _ _ = false
 
+-- the move of a process that was found
 abbrev pub move_on : ℕ → Program → State → Option Process → Option Event
 move_on n m s None = None
 move_on n m s (Some p) = if is_running s.mode && is_ready p.status then option_map (event_of m s p) (decide n m s.bound p.goal) else None
@@ -29,6 +30,7 @@ abbrev pub agreed : Entry → Option Event → Option Event
 agreed e None = None
 agreed e (Some ev) = if is_same_move e ev.entry then Some ev else None
 
+-- a control, where it is allowed, with the mode behind it
 abbrev pub control : State → Entry → Bool → Mode → Option Event
 control s e allowed mode = if allowed then Some (control_event s e mode) else None
 
@@ -56,6 +58,7 @@ abbrev pub last_state : State → List Event → State
 last_state s [] = s
 last_state s (ev ∷ evs) = last_state ev.after evs
 
+-- the entries of some events
 abbrev pub entries_of : List Event → List Entry
 entries_of evs = map (λ ev. ev.entry) evs
 

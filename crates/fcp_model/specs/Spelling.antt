@@ -6,6 +6,7 @@ use Rattle.fcp_model.specs.declared.run.Place.{Place}
 use Rattle.fcp_model.specs.declared.run.Proc.{Proc}
 use Rattle.fcp_model.specs.Places.{Variable, made, own}
 
+-- a text, as its bytes
 abbrev pub Bytes : Type 0
 Bytes = List ℕ
 
@@ -30,9 +31,11 @@ string_text bs = if is_name bs then bs else 39 ∷ doubled bs ++ 39 ∷ []
 abbrev pub name_at : List Bytes → ℕ → Bytes
 name_at names s = unwrap_or (slice_get names s) []
 
+-- `_n.k`
 abbrev pub place_text : Place → Bytes
 place_text p = codes "_" ++ decimal p.entry ++ codes "." ++ decimal p.number
 
+-- `#n.k`
 abbrev pub process_text : Proc → Bytes
 process_text p = codes "#" ++ decimal p.entry ++ codes "." ++ decimal p.number
 

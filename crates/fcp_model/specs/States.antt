@@ -6,17 +6,20 @@ use Rattle.fcp_model.specs.Places.{place, proc, is_same_process, Variable, place
 use Rattle.fcp_model.specs.Terms.{Bindings}
 use Rattle.fcp_model.specs.Programs.{Goal, rename_goal}
 
+-- how a process stands
 pub data Status : Type 0 where
   ready : Status
   -- on the places, in order of age
   waiting : List Place → Status
   finished : Status
 
+-- a process: its name, its goal and how it stands
 pub record Process : Type 0 where
   pub name : Proc
   pub goal : Goal Variable
   pub status : Status
 
+-- how a run stands
 pub data Mode : Type 0 where
   is_open : Mode
   -- a control suspended the run
@@ -52,18 +55,22 @@ start vars gs = record {
   mode = is_open;
 }
 
+-- the process may move
 abbrev pub is_ready : Status → Bool
 is_ready ready = true
 is_ready _ = false
 
+-- the process is done
 abbrev pub is_finished : Status → Bool
 is_finished finished = true
 is_finished _ = false
 
+-- moves are allowed
 abbrev pub is_running : Mode → Bool
 is_running is_open = true
 is_running _ = false
 
+-- a control suspended the run, and none resumed it since
 abbrev pub is_suspended : Mode → Bool
 is_suspended is_held = true
 is_suspended _ = false

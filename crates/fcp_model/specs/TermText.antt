@@ -11,14 +11,16 @@ pub record Written : Type 0 where
   pub text : Bytes
   pub left : ℕ
 
+-- this text, with so many nodes left
 abbrev pub written : Bytes → ℕ → Option Written
 written bs left = Some (record { text = bs; left = left })
 
--- with text before it, and with text behind it
+-- with text before it
 abbrev pub behind : Bytes → Option Written → Option Written
 behind bs None = None
 behind bs (Some w) = written (bs ++ w.text) w.left
 
+-- with text behind it
 abbrev pub before : Bytes → Option Written → Option Written
 before bs None = None
 before bs (Some w) = written (w.text ++ bs) w.left
@@ -28,6 +30,7 @@ abbrev pub and_then : Option Written → (ℕ → Option Written) → Option Wri
 and_then None next = None
 and_then (Some w) next = behind w.text (next w.left)
 
+-- the text of a value without parts, or None for a pair or a tuple
 abbrev pub leaf_text : List Bytes → Look → Option Bytes
 leaf_text names (writable p) = Some (variable_text p)
 leaf_text names (read_only p) = Some (variable_text p ++ codes "?")

@@ -19,6 +19,7 @@ pub data Kind : Type 0 where
   is_known : Kind
   is_unknown : Kind
 
+-- a test: `true`, `otherwise`, a kind of value, `==`, `\==`, or two numbers compared
 pub data Test (V : Type 0) : Type 0 where
   always : Test V
   otherwise : Test V
@@ -27,6 +28,7 @@ pub data Test (V : Type 0) : Type 0 where
   not_same : Term V → Term V → Test V
   ordered : CompareOp → Expr V → Expr V → Test V
 
+-- the test with each variable as f gives it
 abbrev pub rename_test : {V W : Type 0} → (V → W) → Test V → Test W
 rename_test f always = always
 rename_test f otherwise = otherwise
@@ -41,6 +43,7 @@ pub data Tested : Type 0 where
   fails : List Variable → Tested
   pauses : List Variable → Tested
 
+-- a yes or a no for which nothing was read unbound
 abbrev pub decided : Bool → Tested
 decided b = if b then holds [] else fails []
 
@@ -61,11 +64,13 @@ abbrev pub kind_open : Kind → Variable → Tested
 kind_open is_unknown p = holds (p ∷ [])
 kind_open k p = pauses (p ∷ [])
 
+-- a test of one operand, by its value
 abbrev pub test_kind : Kind → Look → Tested
 test_kind k (writable p) = kind_open k p
 test_kind k (read_only p) = kind_open k p
 test_kind k (solid t) = decided (is_kind k t)
 
+-- whether two numbers compare so
 abbrev pub order_of : CompareOp → ℤ → ℤ → Bool
 order_of Less y z = int_lt y z
 order_of AtMost y z = int_le y z
@@ -93,9 +98,11 @@ same_step (read_only p) (writable q) = if is_same p q then nothing else waits
 same_step (read_only p) (read_only q) = if is_same p q then nothing else waits
 same_step _ _ = waits
 
+-- one pair of `==` with the variables that it reads
 abbrev pub same_pair : Look → Look → Option Treated
 same_pair l m = treated (same_step l m) (look_reads l ++ look_reads m)
 
+-- behind one pair of `==`: the rest decides, or this pair did
 abbrev pub same_on : (List Variable → List Pair → Option Tested) → List Variable → List Pair → Step → Option Tested
 same_on next rs ps nothing = next rs ps
 same_on next rs ps (parts qs) = next rs (qs ++ ps)
@@ -103,6 +110,7 @@ same_on next rs ps clashes = Some (fails rs)
 same_on next rs ps waits = Some (pauses rs)
 same_on next rs ps (binds p t) = Some (pauses rs)
 
+-- the same, with the reads of the pair behind those before
 abbrev pub equal_on : (List Variable → List Pair → Option Tested) → List Variable → List Pair → Option Treated → Option Tested
 equal_on next rs ps None = None
 equal_on next rs ps (Some t) = same_on next (rs ++ t.reads) ps t.step
@@ -113,6 +121,7 @@ is_equal zero s rs ps = None
 is_equal (suc n) s rs [] = Some (holds rs)
 is_equal (suc n) s rs (ab ∷ ps) = equal_on (is_equal n s) rs ps (both_looks same_pair (value n s ab.0) (value n s ab.1))
 
+-- the other answer; a wait stays a wait
 abbrev pub opposed : Tested → Tested
 opposed (holds rs) = fails rs
 opposed (fails rs) = holds rs

@@ -20,6 +20,7 @@ use Rattle.fcp_model.specs.Tests.{Kind, is_integer, is_string, is_constant, is_l
 use Rattle.fcp_model.specs.Programs.{Goal, user, true', unifies, assigns, Clause, Procedure, Program}
 use Rattle.fcp_model.specs.States.{State, start}
 
+-- the parts of a tuple, from a list of them
 abbrev pub terms_of : {V : Type 0} → List (Term V) → Terms V
 terms_of [] = none
 terms_of (t ∷ ts) = more t (terms_of ts)
@@ -34,16 +35,20 @@ term_step (Term-F.Tuple ts) = tuple (terms_of ts)
 term_step (Term-F.Var k) = var k
 term_step (Term-F.Ro k) = ro k
 
+-- a term that was read as a term of the definitions
 abbrev pub term_of : source.Term → Term ℕ
 term_of = source.fold-Term (Term ℕ) term_step
 
+-- one level of an expression, with the operands already translated
 abbrev pub expr_step : Expr-F (Expr ℕ) → Expr ℕ
 expr_step (Expr-F.Leaf t at) = leaf (term_of t)
 expr_step (Expr-F.Op o a b) = op o a b
 
+-- an expression that was read as one of the definitions; places in the text are left out
 abbrev pub expr_of : source_expr.Expr → Expr ℕ
 expr_of = source_expr.fold-Expr (Expr ℕ) expr_step
 
+-- a procedure by its name and its number of arguments
 abbrev pub head_called : Sym → ℕ → Head
 head_called name arity = record { name = name; arity = arity }
 
@@ -82,6 +87,7 @@ test_of (Compare o a b) = Some (ordered o (expr_of a) (expr_of b))
 test_of (Unify a b) = None
 test_of (Assign a e) = None
 
+-- the goals of some items, in order
 abbrev pub goals_of : List Head → List Item → List (Goal ℕ)
 goals_of hs items = map (λ i. goal_of hs i.call) items
 
@@ -98,6 +104,7 @@ clause_of hs c = record {
 abbrev pub clauses_called : List Head → Head → List read.Clause → List Clause
 clauses_called hs h cs = map (clause_of hs) (filter (λ c. same_head h (head_of c)) cs)
 
+-- a procedure with all its clauses, however scattered
 abbrev pub procedure_of : List Head → List read.Clause → Head → Procedure
 procedure_of hs cs h = record { name = h.name.0; arity = h.arity; clauses = clauses_called hs h cs }
 

@@ -13,6 +13,7 @@ pub data Tried : Type 0 where
   try_fails : List Variable → Tried
   try_waits : List Variable → Tried
 
+-- behind one test: the next one, where it holds
 abbrev pub test_on : (List Variable → Option Tried) → List Variable → Option Tested → Option Tried
 test_on next rs None = None
 test_on next rs (Some (holds qs)) = next (rs ++ qs)
@@ -24,6 +25,7 @@ abbrev pub tests : ℕ → Bindings → Bindings → Bool → List Variable → 
 tests n s bs behind rs [] = Some (succeeds bs rs)
 tests n s bs behind rs (t ∷ ts) = test_on (λ qs. tests n s bs behind qs ts) rs (test n (s ++ bs) behind (rename_test own t))
 
+-- behind the unification of the head: the guard, where it succeeded
 abbrev pub guard_on : (Bindings → List Variable → Option Tried) → Option Ended → Option Tried
 guard_on next None = None
 guard_on next (Some (done bs rs)) = next bs rs

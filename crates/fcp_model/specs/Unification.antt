@@ -14,6 +14,7 @@ pub data Ended : Type 0 where
 abbrev pub Next : Type 0
 Next = Bindings → List Variable → List Pair → Option Ended
 
+-- behind one step: the pairs that are left, or the end
 abbrev pub step_on : Next → Bindings → List Variable → List Pair → Step → Option Ended
 step_on next bs rs ps nothing = next bs rs ps
 step_on next bs rs ps (binds p t) = next (bs ++ (p, t) ∷ []) rs ps
@@ -21,6 +22,7 @@ step_on next bs rs ps (parts qs) = next bs rs (qs ++ ps)
 step_on next bs rs ps clashes = Some (clash rs)
 step_on next bs rs ps waits = Some (wait rs)
 
+-- the same, with the reads of the pair behind those before
 abbrev pub go_on : Next → Bindings → List Variable → List Pair → Option Treated → Option Ended
 go_on next bs rs ps None = None
 go_on next bs rs ps (Some t) = step_on next bs (rs ++ t.reads) ps t.step

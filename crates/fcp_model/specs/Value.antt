@@ -9,6 +9,7 @@ pub data Look : Type 0 where
   read_only : Variable → Look
   solid : Term Variable → Look
 
+-- an unbound variable, read-only where a mark was met
 abbrev pub open_place : Bool → Variable → Look
 open_place true p = read_only p
 open_place false p = writable p

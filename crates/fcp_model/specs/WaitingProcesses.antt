@@ -3,6 +3,7 @@ use Rattle.std.specs.Prelude.{Bool, true, false, ◌&&◌, ◌||◌, nat_eq, nat
 use Rattle.fcp_model.specs.declared.run.Proc.{Proc}
 use Rattle.fcp_model.specs.States.{Status, ready, waiting, finished, Process}
 
+-- the process hangs
 abbrev pub is_waiting : Status → Bool
 is_waiting (waiting ps) = true
 is_waiting ready = false

@@ -23,6 +23,7 @@ use Rattle.fcp_grammar.specs.Items.{step_side}
 use Rattle.fcp_grammar.specs.ItemGrammar.{over_items}
 use Rattle.fcp_reader.specs.ModuleValues.{head_of, clause_of, with_clause}
 
+-- the module so far, and where the next clause or attribute stands
 abbrev pub state : Module → Part → State
 state m part = record { read = m; part = part }
 
@@ -30,6 +31,7 @@ state m part = record { read = m; part = part }
 abbrev pub ended : Module → Head → Option (List Item) → List Item → ℕ → State
 ended m h guard body vars = state (with_clause m (clause_of h guard body vars)) Q.Between
 
+-- a further word that is not too many
 abbrev pub goes : State → Option (State × Bool)
 goes s = Some (s, false)
 
@@ -45,6 +47,7 @@ behind_arg m at s done W.Comma = goes (state m (Q.Args at s done start))
 behind_arg m at s done W.RoundClose = goes (state m (Q.Called (head_of at s done)))
 behind_arg m at s done _ = None
 
+-- a word within a head's argument, by what it comes to within its term
 abbrev pub args_told : Module → ℕ → Sym → List Term → TermAt → Word → Told → Option (State × Bool)
 args_told m at s done x w (R.Read y) = Some (state m (Q.Args at s done y), is_large (over done) x w)
 args_told m at s done x w (R.Whole phase) = behind_arg m at s (done ++ term_of phase ∷ []) w
@@ -66,6 +69,7 @@ behind_item m h guard items W.Bar = barred m h guard items
 behind_item m h guard items (W.Dot n) = goes (ended m h guard items n)
 behind_item m h guard items _ = None
 
+-- a word within an item, by what it comes to there
 abbrev pub body_turn : Module → Head → Option (List Item) → List Item → Word → Turn → Option (State × Bool)
 body_turn m h guard items w (N.Goes side mark) = Some (state m (Q.Body h guard items side), mark)
 body_turn m h guard items w (N.Ends item) = behind_item m h guard (items ++ item ∷ []) w

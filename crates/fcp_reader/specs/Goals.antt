@@ -11,6 +11,7 @@ use Rattle.fcp_grammar.specs.ItemGrammar.{over_items}
 use Rattle.fcp_reader.specs.declared.goals.GoalAt.{GoalAt}
 use Rattle.fcp_reader.specs.declared.goals.GoalAt.TheVariants.{Items, Ended}
 
+-- before the first word
 abbrev pub beginning : GoalAt
 beginning = Items [] Start
 
@@ -20,11 +21,13 @@ behind_item items W.Comma = Some (Items items Start, false)
 behind_item items (W.Dot n) = Some (Ended items, false)
 behind_item items _ = None
 
+-- a word within an item, by what it comes to there
 abbrev pub turned : List Item → Word → Turn → Option (GoalAt × Bool)
 turned items w (N.Goes side mark) = Some (Items items side, mark)
 turned items w (N.Ends item) = behind_item (items ++ item ∷ []) w
 turned items w N.Refused = None
 
+-- one word, and whether it is one too many
 unfoldable pub step : GoalAt → Word → Option (GoalAt × Bool)
 step (Items items side) w = turned items w (step_side (over_items items) side w)
 step (Ended items) w = None

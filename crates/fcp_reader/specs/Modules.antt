@@ -15,11 +15,13 @@ use Rattle.fcp_reader.specs.ModuleValues.{nothing, with_said}
 use Rattle.fcp_reader.specs.Attributes.{step_attribute}
 use Rattle.fcp_reader.specs.Clauses.{state, goes, behind_head, in_args, in_body, named}
 
+-- a word within an attribute, by what it comes to there
 abbrev pub attribute_turn : Module → ℕ → AttributeTurn → Option (State × Bool)
 attribute_turn m dash (T.Goes at mark) = Some (state m (Q.Attribute dash at), mark)
 attribute_turn m dash (T.Ends said) = goes (state (with_said m dash said) Q.Between)
 attribute_turn m dash T.Refused = None
 
+-- a word within an attribute
 unfoldable pub in_attribute : Module → ℕ → AttributeAt → Word → Option (State × Bool)
 in_attribute m dash at w = attribute_turn m dash (step_attribute at w)
 
@@ -29,6 +31,7 @@ between m (W.Str s form at) = goes (state m (Q.Named at s))
 between m (W.Operator Sub at) = goes (state m (Q.Attribute at A.Dash))
 between m _ = None
 
+-- one word, by where the clause or the attribute stands
 abbrev pub step_part : Module → Part → Word → Option (State × Bool)
 step_part m Q.Between w = between m w
 step_part m (Q.Attribute dash at) w = in_attribute m dash at w
@@ -37,9 +40,11 @@ step_part m (Q.Args at s done x) w = in_args m at s done x w
 step_part m (Q.Called h) w = behind_head m h w
 step_part m (Q.Body h guard items side) w = in_body m h guard items side w
 
+-- one word, and whether it is one too many
 unfoldable pub step : State → Word → Option (State × Bool)
 step s w = step_part s.read s.part w
 
+-- before the first word
 abbrev pub beginning : State
 beginning = state nothing Q.Between
 
@@ -48,5 +53,6 @@ abbrev pub whole_by : Module → Part → Option Module
 whole_by m Q.Between = Some m
 whole_by m _ = None
 
+-- the module, where no clause and no attribute was begun
 abbrev pub whole : State → Option Module
 whole s = whole_by s.read s.part

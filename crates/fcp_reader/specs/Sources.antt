@@ -24,6 +24,7 @@ use Rattle.fcp_reader.specs.TokenFaults.{IsFirst}
 abbrev pub words_of : Form → List Text → Text → List Token → List Word
 words_of f names z ts = words_from f (env names []) (lexemes z ts)
 
+-- what is numbered behind a text with these tokens
 abbrev pub behind : Form → List Text → Text → List Token → Env
 behind f names z ts = env_from f (env names []) (lexemes z ts)
 
@@ -45,9 +46,11 @@ pub data HasFault {T : Type 0} (spell : T → List Marked) (f : Form) (names : L
   of_tokens : tokens_of z ≡ Err fault → HasFault spell f names z fault
   of_grammar : (tokens : List Token) (n : ℕ) → tokens_of z ≡ Ok tokens → fault.at ≡ place_at z tokens n → IsFirst spell f (env names []) (lexemes z tokens) fault.code n → HasFault spell f names z fault
 
+-- the first fault of a text as a module
 abbrev pub IsModuleFault : List Text → Text → Fault → Type 0
 IsModuleFault names z fault = HasFault spell_module_text form.Module names z fault
 
+-- the first fault of a text as a goal
 abbrev pub IsGoalFault : List Text → Text → Fault → Type 0
 IsGoalFault names z fault = HasFault spell_goal_text form.Goal names z fault
 
@@ -56,9 +59,11 @@ abbrev pub names_by : Form → List Text → Text → Result (List Token) Fault 
 names_by f names z (Ok ts) = (behind f names z ts).names
 names_by f names z (Err fault) = names
 
+-- the strings behind a module
 abbrev pub names_behind_module : List Text → Text → List Text
 names_behind_module names z = names_by form.Module names z (tokens_of z)
 
+-- the strings behind a goal
 abbrev pub names_behind_goal : List Text → Text → List Text
 names_behind_goal names z = names_by form.Goal names z (tokens_of z)
 

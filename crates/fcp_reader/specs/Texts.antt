@@ -22,9 +22,11 @@ pub record Are {T V : Type 0} (spell : T → List Marked) (value_of : T → V) (
   pub shallow : (k : ℕ) (w : Word) → slice_get ws k ≡ Some w → Deep (take k ws) w → ⊥
   pub value : value_of tree ≡ v
 
+-- the words are this module
 abbrev pub AreModule : List Word → Module → Type 0
 AreModule ws m = Are spell_module_text module_value ws m
 
+-- the words are these items of a goal
 abbrev pub AreGoal : List Word → List Item → Type 0
 AreGoal ws items = Are spell_goal_text goal_value ws items
 
@@ -34,6 +36,7 @@ ReadsModule ws (Ok m) = AreModule ws m
 ReadsModule ws (Err NoMemory) = Unit {0}
 ReadsModule ws (Err (Fault c n)) = IsFirstFault spell_module_text ws c n
 
+-- the same for a goal
 abbrev pub ReadsGoal : List Word → Result (List Item) Stopped → Type 0
 ReadsGoal ws (Ok items) = AreGoal ws items
 ReadsGoal ws (Err NoMemory) = Unit {0}

@@ -9,6 +9,7 @@ use Rattle.fcp_model.specs.Programs.{user}
 use Rattle.fcp_rows.specs.Examples.{a, p, X, L, fact, procedure, wide, Prints}
 use Rattle.fcp_rows.specs.Limits.{looping, endless_list}
 
+-- a control that is due behind so many moves
 abbrev pub after : ℕ → Act → Control
 after moves act = record { after = moves; act = act }
 

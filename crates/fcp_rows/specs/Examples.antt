@@ -30,12 +30,15 @@ pub record Example : Type 0 where
 abbrev pub names : List Bytes
 names = codes "a" ∷ codes "b" ∷ codes "c" ∷ codes "f" ∷ codes "p" ∷ codes "q" ∷ codes "r" ∷ codes "X" ∷ codes "Y" ∷ codes "Z" ∷ codes "R" ∷ codes "L" ∷ codes "S" ∷ []
 
+-- the string `a`
 abbrev pub a : Term ℕ
 a = string 0
 
+-- the string `b`
 abbrev pub b : Term ℕ
 b = string 1
 
+-- the string `c`
 abbrev pub c : Term ℕ
 c = string 2
 
@@ -43,30 +46,39 @@ c = string 2
 abbrev pub f : Term ℕ → Term ℕ
 f t = tuple (more (string 3) (more t none))
 
+-- the name `p`, by its number
 abbrev pub p : ℕ
 p = 4
 
+-- the name `q`, by its number
 abbrev pub q : ℕ
 q = 5
 
+-- the name `r`, by its number
 abbrev pub r : ℕ
 r = 6
 
+-- the name of a variable `X`
 abbrev pub X : Option Sym
 X = Some (record { 0 = 7 })
 
+-- the name of a variable `Y`
 abbrev pub Y : Option Sym
 Y = Some (record { 0 = 8 })
 
+-- the name of a variable `Z`
 abbrev pub Z : Option Sym
 Z = Some (record { 0 = 9 })
 
+-- the name of a variable `R`
 abbrev pub R : Option Sym
 R = Some (record { 0 = 10 })
 
+-- the name of a variable `L`
 abbrev pub L : Option Sym
 L = Some (record { 0 = 11 })
 
+-- the name of a variable `S`
 abbrev pub S : Option Sym
 S = Some (record { 0 = 12 })
 
@@ -82,6 +94,7 @@ fact vars args = record { vars = vars; args = args; guard = []; body = [] }
 abbrev pub rule : ℕ → List (Term ℕ) → List (Test ℕ) → List (Goal ℕ) → Clause
 rule vars args guard body = record { vars = vars; args = args; guard = guard; body = body }
 
+-- a procedure by the number of its name, its number of arguments and its clauses
 abbrev pub procedure : ℕ → ℕ → List Clause → Procedure
 procedure name arity clauses = record { name = name; arity = arity; clauses = clauses }
 

@@ -51,6 +51,7 @@ growing =
 abbrev pub two_streams : Example
 two_streams = example growing (S ∷ []) (user 0 (int 1 ∷ var 1 ∷ []) ∷ [])
 
+-- the entries of the run
 abbrev pub two_streams_log : List Entry
 two_streams_log =
     Commit (proc 0 1) 1

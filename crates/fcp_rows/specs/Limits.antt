@@ -48,6 +48,7 @@ endless_list = procedure p 1 (rule 2 (var 1 ∷ []) [] (unifies (var 1) (cons a 
 abbrev pub hundred_cells : Example
 hundred_cells = record { program = endless_list; variables = L ∷ []; goal = user 0 (var 1 ∷ []) ∷ []; limits = record wide { cells = 100 }; controls = [] }
 
+-- the report of the run, line by line
 abbrev pub hundred_cells_report : List Bytes
 hundred_cells_report =
     codes "logix log 1"

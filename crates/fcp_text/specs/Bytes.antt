@@ -5,6 +5,7 @@ use Rattle.std.specs.List.{prefix_len}
 use Rattle.fcp_text.specs.declared.bytes.Class.{Class}
 use Rattle.fcp_text.specs.declared.bytes.Class.TheVariants as class
 
+-- a text, as its bytes
 abbrev pub Text : Type 0
 Text = List ℕ
 

@@ -16,6 +16,7 @@ marks =
 abbrev pub mark_in : List (Text × ℕ) → Text → Option (ℕ × ℕ)
 mark_in table z = option_map (λ m. (m.1, length m.0)) (find (λ m. starts_with nat_eq z m.0) table)
 
+-- the mark at the front of a text, with its length, where there is one
 unfoldable pub mark : Text → Option (ℕ × ℕ)
 mark z = mark_in marks z
 

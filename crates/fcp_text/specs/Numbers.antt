@@ -20,6 +20,7 @@ digits_value = fold with_digit 0
 abbrev pub fits : Bool → ℕ → Bool
 fits is_negative v = nat_lt v 9223372036854775808 || (is_negative && v == 9223372036854775808)
 
+-- the number of a value with a sign before it or not
 abbrev pub with_sign : Bool → ℕ → ℤ
 with_sign false v = pos v
 with_sign true zero = pos 0

@@ -11,14 +11,17 @@ use Rattle.fcp_text.specs.Marks.{mark}
 use Rattle.fcp_text.specs.Numbers.{begins_number, number}
 use Rattle.fcp_text.specs.QuotedStrings.{closing}
 
+-- a quoted string of so many bytes, or a quote that is not closed
 abbrev pub quoted_piece : Option ℕ → Piece
 quoted_piece None = Bad OpenQuote
 quoted_piece (Some len) = Token kind.Quoted len
 
+-- a number with its length, or one outside 64 bits
 abbrev pub number_piece : Option (ℤ × ℕ) → Piece
 number_piece None = Bad NumberRange
 number_piece (Some n) = Token (kind.Int n.0) n.1
 
+-- a mark with its length, or a character that begins no token
 abbrev pub mark_piece : Option (ℕ × ℕ) → Piece
 mark_piece None = Bad BadCharacter
 mark_piece (Some m) = Token (kind.Mark m.0) m.1

@@ -30,6 +30,7 @@ no_list string text = record { alone = text; as_rest = codes "|" ++ text ++ code
 abbrev pub parts_of : List TermTexts → Bytes
 parts_of ts = parted (codes ",") (map (λ (t : TermTexts). t.alone) ts)
 
+-- parts between braces
 abbrev pub in_braces : List TermTexts → Bytes
 in_braces ts = codes "{" ++ parts_of ts ++ codes "}"
 
@@ -75,6 +76,7 @@ string_step (Term-F.Tuple ts) = None
 string_step (Term-F.Var k) = None
 string_step (Term-F.Ro k) = None
 
+-- the string that a term is
 abbrev pub string_in : Term → Option Sym
 string_in = fold-Term (Option Sym) string_step
 

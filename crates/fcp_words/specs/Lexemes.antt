@@ -15,6 +15,7 @@ pub record Lexeme : Type 0 where
 abbrev pub lexeme : Text → Token → Lexeme
 lexeme z t = record { kind = t.kind; at = t.at; text = text_of z t }
 
+-- all tokens with their bytes
 abbrev pub lexemes : Text → List Token → List Lexeme
 lexemes z = map (lexeme z)
 

@@ -16,6 +16,7 @@ mark_words at variables =
     ∷ (21, W.Operator Add at) ∷ (22, W.Operator Sub at) ∷ (23, W.Operator Mul at) ∷ (24, W.Operator Div at)
     ∷ (25, W.Other) ∷ (26, W.Other) ∷ []
 
+-- the word of a mark that was found; the others have no use in the grammar
 abbrev pub word_in : Option (ℕ × Word) → Word
 word_in (Some w) = w.1
 word_in None = W.Other

@@ -22,6 +22,7 @@ pub record Env : Type 0 where
   pub names : List Text
   pub variables : List Variable
 
+-- strings and variables together
 abbrev pub env : List Text → List Variable → Env
 env ns vs = record { names = ns; variables = vs }
 
@@ -54,6 +55,7 @@ abbrev pub number_by : List Variable → Option ℕ → ℕ
 number_by vs (Some i) = i + 1
 number_by vs None = length vs + 1
 
+-- the number of an occurrence of a variable
 unfoldable pub number : List Variable → Text → ℕ
 number vs t = number_by vs (find vs t)
 
@@ -62,6 +64,7 @@ abbrev pub has_name : Form → Text → Bool
 has_name Module t = false
 has_name Goal t = not (slice_index t 0 == 95)
 
+-- the number of a variable's name, where it has one
 abbrev pub name_of : Form → List Text → Text → Option Sym
 name_of f ns t = if has_name f t then Some (record { 0 = number_of ns t }) else None
 
@@ -76,6 +79,7 @@ kept f e t =
     then env (named f e.names t) (e.variables ++ record { text = t; name = name_of f e.names t } ∷ [])
     else e
 
+-- an occurrence of a variable that is known or not
 abbrev pub variable_by : Form → Env → Text → Option ℕ → Env
 variable_by f e t (Some i) = e
 variable_by f e t None = kept f e t
@@ -91,6 +95,7 @@ abbrev pub behind_mark : Form → ℕ → List Variable → List Variable
 behind_mark Module m vs = if m == 8 then [] else vs
 behind_mark Goal m vs = vs
 
+-- the word of a token, by its kind
 abbrev pub word_by : Env → ℕ → Text → Kind → Word
 word_by e at t kind.Name = string_word e.names at t (name_form t)
 word_by e at t kind.Quoted = string_word e.names at (unquoted t) string.Quoted
@@ -98,6 +103,7 @@ word_by e at t kind.Variable = W.Var (number e.variables t) at
 word_by e at t (kind.Int n) = W.Int n at
 word_by e at t (kind.Mark m) = mark_word at (length e.variables) m
 
+-- what is numbered behind a token, by its kind
 abbrev pub env_by : Form → Env → Text → Kind → Env
 env_by f e t kind.Name = env (noted e.names t) e.variables
 env_by f e t kind.Quoted = env (noted e.names (unquoted t)) e.variables

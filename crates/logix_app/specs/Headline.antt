@@ -32,15 +32,19 @@ pub record IsAsked (words : List Bytes) (held : Option Entries) (r : Request) (b
 
 -- ---- what is answered: each status with the text that it prints
 
+-- the words have no reading
 abbrev pub usage_line : Bytes
 usage_line = codes "logix: usage\n"
 
+-- the texts are beyond what runs so far
 abbrev pub form_line : Bytes
 form_line = codes "logix: not in this form\n"
 
+-- the file could not be fetched
 abbrev pub shelf_line : Bytes
 shelf_line = codes "logix: shelf fault\n"
 
+-- the file is above the limit
 abbrev pub too_long_line : Bytes
 too_long_line = codes "logix: too long\n"
 
@@ -183,11 +187,13 @@ pub record HasFile (words : List Bytes) (held : Option Entries) : Type 0 where
   pub names : List Bytes
   pub loaded : IsLoadedModule bytes m names
 
+-- the goal was run, or memory ran out
 abbrev pub IsRunOrNoMemory : Status → Type 0
 IsRunOrNoMemory (status.Ended o) = Unit {0}
 IsRunOrNoMemory status.NoMemory = Unit {0}
 IsRunOrNoMemory _ = ⊥
 
+-- the module was shown, or memory ran out
 abbrev pub IsShownOrNoMemory : Status → Type 0
 IsShownOrNoMemory status.Shown = Unit {0}
 IsShownOrNoMemory status.NoMemory = Unit {0}

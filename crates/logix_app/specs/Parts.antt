@@ -96,6 +96,7 @@ pub record IsLoadedGoal (m : Module) (before : List Bytes) (goal : Bytes) (g : G
   pub faultless : goal_faults_of m g ≡ []
   pub strings : names ≡ names_behind_goal before goal
 
+-- what loading the text of a goal answers, for a loaded module
 abbrev pub LoadsGoalText : Module → List Bytes → Bytes → List Bytes → Result (GoalText × List ℕ) Refused → Type 0
 LoadsGoalText m before goal names (Ok g) = IsLoadedGoal m before goal g.0 names
 LoadsGoalText m before goal names (Err (refused.Fault f)) = IsFirstGoalFaultFor m before goal f
@@ -147,6 +148,7 @@ TellsModuleFault f (ModuleFault g line) = (g ≡ f) × (line.items ≡ fault_lin
 TellsModuleFault f NoMemory = Unit {0}
 TellsModuleFault f _ = ⊥
 
+-- the answer tells this fault of a goal, or memory ran out
 abbrev pub TellsGoalFault : Fault → Answer → Type 0
 TellsGoalFault f (GoalFault g line) = (g ≡ f) × (line.items ≡ fault_line (codes "goal") f)
 TellsGoalFault f NoMemory = Unit {0}
@@ -157,6 +159,7 @@ abbrev pub TellsModule : Refused → Answer → Type 0
 TellsModule (refused.Fault f) a = TellsModuleFault f a
 TellsModule (refused.NoMemory n) a = a ≡ NoMemory
 
+-- the answer to a goal that was refused
 abbrev pub TellsGoal : Refused → Answer → Type 0
 TellsGoal (refused.Fault f) a = TellsGoalFault f a
 TellsGoal (refused.NoMemory n) a = a ≡ NoMemory

@@ -17,6 +17,7 @@ abbrev pub words_for : Request → List Bytes
 words_for (run file goal) = codes "run" ∷ file ∷ goal ∷ []
 words_for (show file) = codes "show" ∷ file ∷ []
 
+-- the words of a request are ones that a call may have
 abbrev pub has_words : Request → Bool
 has_words (run file goal) = is_word file && is_word goal
 has_words (show file) = is_word file

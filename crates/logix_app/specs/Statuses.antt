@@ -15,6 +15,7 @@ outcome_number outcome.Full = 10
 outcome_number outcome.Aborted = 11
 outcome_number outcome.Held = 12
 
+-- the exit status of the program
 abbrev pub status_number : Status → ℕ
 status_number (Ended o) = outcome_number o
 status_number Shown = 0

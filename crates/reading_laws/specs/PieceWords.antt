@@ -29,6 +29,7 @@ pub record Position : Type 0 where
   pub count : ℕ
   pub names : List Text
 
+-- a place in the text, so many variables numbered, and the strings so far
 abbrev pub position : ℕ → ℕ → List Text → Position
 position at count names = record { at = at; count = count; names = names }
 

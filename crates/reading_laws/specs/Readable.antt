@@ -18,6 +18,7 @@ pub record Size : Type 0 where
   pub small : Bool
   pub is_string : Bool
 
+-- the size of a term that is no string
 abbrev pub no_string : Bool → Size
 no_string b = record { small = b; is_string = false }
 
@@ -36,12 +37,15 @@ size_step (Term-F.Tuple ts) = no_string (parts_fit ts && list_all (λ (t : Size)
 size_step (Term-F.Var k) = no_string true
 size_step (Term-F.Ro k) = no_string true
 
+-- the size of a term
 abbrev pub size_of : Term → Size
 size_of = fold-Term Size size_step
 
+-- no part of the term is one too many
 unfoldable pub is_small_term : Term → Bool
 is_small_term t = (size_of t).small
 
+-- no part of the terms is one too many
 abbrev pub are_small_terms : List Term → Bool
 are_small_terms ts = list_all is_small_term ts
 
@@ -50,6 +54,7 @@ abbrev pub small_expr_step : Expr-F Bool → Bool
 small_expr_step (Expr-F.Leaf t at) = is_small_term t
 small_expr_step (Expr-F.Op op left right) = left && right
 
+-- no part of a leaf is one too many
 unfoldable pub is_small_expr : Expr → Bool
 is_small_expr = fold-Expr Bool small_expr_step
 
@@ -58,6 +63,7 @@ abbrev pub operators_step : Expr-F ℕ → ℕ
 operators_step (Expr-F.Leaf t at) = 0
 operators_step (Expr-F.Op op left right) = left + right + 1
 
+-- how many operators an expression has
 unfoldable pub operators_of : Expr → ℕ
 operators_of = fold-Expr ℕ operators_step
 
@@ -80,9 +86,11 @@ has_body [] body = true
 has_body (g ∷ gs) [] = false
 has_body (g ∷ gs) (i ∷ is) = true
 
+-- no part of the clause is one too many
 abbrev pub is_small_clause : Clause → Bool
 is_small_clause c = nat_le (length c.args) 64 && are_small_terms c.args && are_small_items c.guard && are_small_items c.body && has_body c.guard c.body
 
+-- nor are its variables numbered otherwise than in the order of the text
 abbrev pub is_readable_clause : Clause → Bool
 is_readable_clause c = is_small_clause c && is_numbered c
 

@@ -25,6 +25,7 @@ variables_step (Term-F.Ro k) = k ∷ []
 unfoldable pub term_variables : Term → List ℕ
 term_variables = fold-Term (List ℕ) variables_step
 
+-- the variables of terms, one for each occurrence
 abbrev pub terms_variables : List Term → List ℕ
 terms_variables ts = flat_map term_variables ts
 
@@ -46,6 +47,7 @@ call_variables (Same a b) = term_variables a ++ term_variables b
 call_variables (NotSame a b) = term_variables a ++ term_variables b
 call_variables (Compare op d e) = expr_variables d ++ expr_variables e
 
+-- the variables of items, one for each occurrence
 abbrev pub items_variables : List Item → List ℕ
 items_variables is = flat_map (λ (i : Item). call_variables i.call) is
 

@@ -29,5 +29,6 @@ abbrev pub is_few : Word → Bool
 is_few (W.Var k at) = nat_le k 250
 is_few _ = true
 
+-- none of the words is that of a variable too many
 abbrev pub are_few : List Word → Bool
 are_few ws = list_all is_few ws

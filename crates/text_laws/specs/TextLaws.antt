@@ -29,6 +29,7 @@ WhatIsWrittenIsRead = (ps : List Spelling) → Fits true ps → read_in (spellin
 abbrev pub TermsAreSpelled : Type 0
 TermsAreSpelled = (names : List Text) (t : Term) (ps : List Spelling) → spellings_text (term_spellings names t ps) ≡ term_text names t ++ spellings_text ps
 
+-- the spellings of a module make its canonical text
 abbrev pub ModulesAreSpelled : Type 0
 ModulesAreSpelled = (names : List Text) (m : Module) (ps : List Spelling) → spellings_text (module_spellings names m ps) ≡ module_text names m ++ spellings_text ps
 
@@ -36,6 +37,7 @@ ModulesAreSpelled = (names : List Text) (m : Module) (ps : List Spelling) → sp
 abbrev pub TermsFit : Type 0
 TermsFit = (names : List Text) (t : Term) → AreWritableNames names → is_writable_term t ≡ true → Fits true (term_spellings names t [])
 
+-- the spellings of a module may stand behind one another
 abbrev pub ModulesFit : Type 0
 ModulesFit = (names : List Text) (m : Module) → IsWritable names m → Fits true (module_spellings names m [])
 
@@ -45,6 +47,7 @@ ModulesFit = (names : List Text) (m : Module) → IsWritable names m → Fits tr
 abbrev pub TermTextsAreCut : Type 0
 TermTextsAreCut = (names : List Text) (t : Term) → AreWritableNames names → is_writable_term t ≡ true → tokens_of (term_text names t) ≡ Ok (tokens_at 0 (term_spellings names t []))
 
+-- a canonical text is cut into the tokens that were written
 abbrev pub ModuleTextsAreCut : Type 0
 ModuleTextsAreCut = (names : List Text) (m : Module) → IsWritable names m → tokens_of (module_text names m) ≡ Ok (tokens_at 0 (module_spellings names m []))
 

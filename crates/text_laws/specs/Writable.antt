@@ -55,12 +55,15 @@ is_writable_call (Same a b) = is_writable_term a && is_writable_term b
 is_writable_call (NotSame a b) = is_writable_term a && is_writable_term b
 is_writable_call (Compare op d e) = is_writable_expr d && is_writable_expr e
 
+-- each item can be written and read
 abbrev pub are_writable_items : List Item → Bool
 are_writable_items is = list_all (λ (i : Item). is_writable_call i.call) is
 
+-- each part of the clause can
 abbrev pub is_writable_clause : Clause → Bool
 is_writable_clause c = list_all is_writable_term c.args && (are_writable_items c.guard && are_writable_items c.body)
 
+-- each number of arguments can
 abbrev pub are_writable_exports : Option (List Export) → Bool
 are_writable_exports None = true
 are_writable_exports (Some es) = list_all (λ (e : Export). is_int (pos e.arity)) es
