@@ -23,7 +23,7 @@ second at None = at
 second at (Some r) = r.1
 
 -- two answers by numbers of steps are one
-once : {A : Type 0} (f : ℕ → Option A) → Grows f → (n n' : ℕ) (x y : A) → f n ≡ Some x → f n' ≡ Some y → x ≡ y
+pub once : {A : Type 0} (f : ℕ → Option A) → Grows f → (n n' : ℕ) (x y : A) → f n ≡ Some x → f n' ≡ Some y → x ≡ y
 once f g n n' x y e e' =
     let a : f (n + n') ≡ Some x = at_least f g n (n + n') (omega arith) x e in
     let b : f (n + n') ≡ Some y = at_least f g n' (n + n') (omega arith) y e' in

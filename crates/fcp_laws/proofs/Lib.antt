@@ -1,3 +1,6 @@
 pub mod DeterminedRuns
 pub mod LawfulRuns
 pub mod LawfulStands
+pub mod MoreReportSteps
+pub mod MoreTextSteps
+pub mod OneReport

@@ -1,9 +1,11 @@
--- Laws of decisions, logs and runs of one worker.
-use Rattle.std.specs.Prelude.{◌≡◌, ℕ, ◌-◌, false, List, [], length}
+-- Laws of decisions, logs, runs of one worker and reports.
+use Rattle.std.specs.Prelude.{◌≡◌, ℕ, ◌-◌, false, List, [], length, Option}
 use Rattle.std.specs.List.{list_any}
 use Rattle.fcp_model.specs.declared.run.Limits.{Limits}
 use Rattle.fcp_model.specs.declared.run.Control.{Control}
 use Rattle.fcp_model.specs.declared.run.Entry.{Entry}
+use Rattle.fcp_model.specs.declared.run.Outcome.{Outcome}
+use Rattle.fcp_model.specs.declared.names.Sym.{Sym}
 use Rattle.fcp_model.specs.Places.{Variable}
 use Rattle.fcp_model.specs.Terms.{Bindings}
 use Rattle.fcp_model.specs.Programs.{Goal, Program}
@@ -16,6 +18,8 @@ use Rattle.fcp_model.specs.OneWorker.{Stand, is_over, begin, Leads, IsOneWorkerR
 use Rattle.fcp_model.specs.Outcomes.{Ends}
 use Rattle.fcp_model.specs.Endings.{outcome_at}
 use Rattle.fcp_model.specs.Stands.{IsOrdered, IsSoundStand}
+use Rattle.fcp_model.specs.Spelling.{Bytes}
+use Rattle.fcp_model.specs.Reports.{IsReport}
 use Rattle.fcp_laws.specs.LawfulControls.{AreLawful}
 
 -- one decision is made for a goal over a map
@@ -60,3 +64,8 @@ OneWorkerRunsAreRuns = (m : Program) (limits : Limits) (s : State) (controls : L
 -- a run of one worker ends with the outcome that is read off where it stands
 abbrev pub OneWorkerRunsEnd : Type 0
 OneWorkerRunsEnd = (m : Program) (limits : Limits) (s : State) (controls : List Control) (evs : List Event) (at : Stand) → IsOrdered s → s.mode ≡ is_open → IsOneWorkerRun m limits s controls evs at → Ends m limits s evs (outcome_at limits at)
+
+-- one report, with one outcome, is made from a state under limits and controls
+abbrev pub ARunHasOneReport : Type 0
+ARunHasOneReport = (m : Program) (s : State) (limits : Limits) (controls : List Control) (names : List Bytes) (variables : List (Option Sym)) (o o' : Outcome) (bytes bytes' : Bytes)
+    → IsReport m s limits controls names variables o bytes → IsReport m s limits controls names variables o' bytes' → (o ≡ o') × (bytes ≡ bytes')

@@ -1,7 +1,7 @@
 //! Laws of the definitions of Flat Concurrent Prolog's runs. Each function does nothing: its contract is the law.
 #![tactic(auto)]
 
-ghost use Rattle.fcp_laws.specs.Laws.{AGoalHasOneDecision, ALogHasOneHistory, OneWorkerMakesOneRun, AStartIsOrdered, StandsAreSound, AnEmptyQueueLeavesNoneReady, OneWorkerRunsAreRuns, OneWorkerRunsEnd};
+ghost use Rattle.fcp_laws.specs.Laws.{AGoalHasOneDecision, ALogHasOneHistory, OneWorkerMakesOneRun, AStartIsOrdered, StandsAreSound, AnEmptyQueueLeavesNoneReady, OneWorkerRunsAreRuns, OneWorkerRunsEnd, ARunHasOneReport};
 
 /// One decision is made for a goal over a map.
 pub fn decisions()
@@ -26,4 +26,9 @@ pub fn sound_stands()
 pub fn one_worker_runs()
     ensures lawful { OneWorkerRunsAreRuns }
     ensures outcome { OneWorkerRunsEnd }
+{}
+
+/// One report is made from a state under limits and controls, whatever number of steps it is computed in.
+pub fn reports()
+    ensures { ARunHasOneReport }
 {}
