@@ -19,59 +19,34 @@ fn mark_of(first: u8, second: u8, third: u8) -> Option<(u8, usize)>
     ensures value { result ≡ spec.mark (first ∷ second ∷ third ∷ []) }
     ensures short { IfSome result (λ m. spec.IsShort second third m.1) }
 {
-    match first {
-        b'(' => Some((0, 1)),
-        b')' => Some((1, 1)),
-        b'[' => Some((2, 1)),
-        b']' => Some((3, 1)),
-        b'{' => Some((4, 1)),
-        b'}' => Some((5, 1)),
-        b'|' => Some((6, 1)),
-        b',' => Some((7, 1)),
-        b'.' => Some((8, 1)),
-        b'?' => Some((9, 1)),
-        b':' => {
-            if second == b'-' {
-                Some((10, 2))
-            } else if second == b'=' {
-                Some((11, 2))
-            } else {
-                Some((25, 1))
-            }
-        }
-        b'=' => {
-            if second == b':' && third == b'=' {
-                Some((19, 3))
-            } else if second == b'\\' && third == b'=' {
-                Some((20, 3))
-            } else if second == b'=' {
-                Some((13, 2))
-            } else if second == b'<' {
-                Some((16, 2))
-            } else {
-                Some((12, 1))
-            }
-        }
-        b'\\' => {
-            if second == b'=' && third == b'=' {
-                Some((14, 3))
-            } else {
-                None
-            }
-        }
-        b'<' => Some((15, 1)),
-        b'>' => {
-            if second == b'=' {
-                Some((18, 2))
-            } else {
-                Some((17, 1))
-            }
-        }
-        b'+' => Some((21, 1)),
-        b'-' => Some((22, 1)),
-        b'*' => Some((23, 1)),
-        b'/' => Some((24, 1)),
-        b'#' => Some((26, 1)),
+    match (first, second, third) {
+        (b'\\', b'=', b'=') => Some((14, 3)),
+        (b'=', b':', b'=') => Some((19, 3)),
+        (b'=', b'\\', b'=') => Some((20, 3)),
+        (b':', b'-', _) => Some((10, 2)),
+        (b':', b'=', _) => Some((11, 2)),
+        (b'=', b'=', _) => Some((13, 2)),
+        (b'=', b'<', _) => Some((16, 2)),
+        (b'>', b'=', _) => Some((18, 2)),
+        (b'(', _, _) => Some((0, 1)),
+        (b')', _, _) => Some((1, 1)),
+        (b'[', _, _) => Some((2, 1)),
+        (b']', _, _) => Some((3, 1)),
+        (b'{', _, _) => Some((4, 1)),
+        (b'}', _, _) => Some((5, 1)),
+        (b'|', _, _) => Some((6, 1)),
+        (b',', _, _) => Some((7, 1)),
+        (b'.', _, _) => Some((8, 1)),
+        (b'?', _, _) => Some((9, 1)),
+        (b'=', _, _) => Some((12, 1)),
+        (b'<', _, _) => Some((15, 1)),
+        (b'>', _, _) => Some((17, 1)),
+        (b'+', _, _) => Some((21, 1)),
+        (b'-', _, _) => Some((22, 1)),
+        (b'*', _, _) => Some((23, 1)),
+        (b'/', _, _) => Some((24, 1)),
+        (b':', _, _) => Some((25, 1)),
+        (b'#', _, _) => Some((26, 1)),
         _ => None,
     }
 }
