@@ -17,3 +17,9 @@ pub mod LawProofs
 pub mod TokenWords
 pub mod TextLaws
 pub mod Sourced
+pub mod Bounded
+pub mod KnownWords
+pub mod TermLimits
+pub mod ItemLimits
+pub mod ClauseLimits
+pub mod TextLimits

@@ -1,9 +1,10 @@
 -- Laws of texts.
-use Rattle.std.specs.Prelude.{◌≡◌, List}
+use Rattle.std.specs.Prelude.{◌≡◌, ◌≤◌, true, List, length}
 use Rattle.fcp_model.specs.declared.fault.Fault.{Fault}
 use Rattle.fcp_model.specs.declared.source.GoalText.{GoalText}
 use Rattle.fcp_model.specs.declared.source.Module.{Module}
 use Rattle.fcp_text.specs.Bytes.{Text}
+use Rattle.fcp_reader.specs.Limits.{is_module_within, is_goal_within}
 use Rattle.fcp_reader.specs.Sources.{IsModule, IsGoal, IsModuleFault, IsGoalFault}
 
 -- a text is at most one module
@@ -26,3 +27,8 @@ FaultIsNoModule = (names : List Text) (z : Text) (m : Module) (a : Fault) → Is
 -- a text that is a goal has no fault as one
 abbrev pub FaultIsNoGoal : Type 0
 FaultIsNoGoal = (names : List Text) (z : Text) (g : GoalText) (a : Fault) → IsGoal names z g → IsGoalFault names z a → ⊥
+
+-- a module or a goal that a text is keeps the limits of the language, and a module has at most as many clauses as its text has bytes
+abbrev pub TextsKeepLimits : Type 0
+TextsKeepLimits = ((names : List Text) (z : Text) (m : Module) → IsModule names z m → (is_module_within m ≡ true) × (length m.clauses ≤ length z))
+    × ((names : List Text) (z : Text) (g : GoalText) → IsGoal names z g → is_goal_within g ≡ true)

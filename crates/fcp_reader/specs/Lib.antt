@@ -9,6 +9,7 @@ pub mod ModuleGrammar
 pub mod GoalGrammar
 pub mod Faults
 pub mod Texts
+pub mod Limits
 pub mod Laws
 pub mod TokenFaults
 pub mod Sources

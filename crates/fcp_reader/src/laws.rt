@@ -1,5 +1,5 @@
 //! Laws of texts.
-ghost use Rattle.fcp_reader.specs.Laws.{OneModule, OneGoal, OneFault, FaultIsNoModule, FaultIsNoGoal};
+ghost use Rattle.fcp_reader.specs.Laws.{OneModule, OneGoal, OneFault, FaultIsNoModule, FaultIsNoGoal, TextsKeepLimits};
 
 /// A text is at most one module.
 pub fn one_module()
@@ -24,4 +24,12 @@ pub fn fault_is_no_module()
 /// A text that is a goal has no fault as one.
 pub fn fault_is_no_goal()
     ensures { FaultIsNoGoal }
+{}
+
+/// A module or a goal that a text is keeps the limits of the language. Each clause and each goal has at most 250 variables, and
+/// each occurrence of a variable has the number of one of them. Each head and each call has at most 64 arguments, each tuple at
+/// most 65 parts, and each guard, each body and each goal at most 256 items. A module has at most as many clauses as its text
+/// has bytes.
+pub fn texts_keep_limits()
+    ensures { TextsKeepLimits }
 {}

@@ -11,5 +11,7 @@ mod sources;
 #[cfg(test)]
 mod tests;
 
-pub use laws::{fault_is_no_goal, fault_is_no_module, one_fault, one_goal, one_module};
+pub use laws::{
+    fault_is_no_goal, fault_is_no_module, one_fault, one_goal, one_module, texts_keep_limits,
+};
 pub use sources::{read_goal, read_module};
