@@ -28,3 +28,4 @@ pub mod ShownWords
 pub mod Sounds
 pub mod SourceTerms
 pub mod Texts
+pub mod WaitingOrder

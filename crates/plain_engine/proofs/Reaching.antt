@@ -18,8 +18,8 @@ use Rattle.fcp_model.specs.OneWorker.{Stand, Ruling, ends, passes, makes, after_
 use Rattle.fcp_model.specs.Spelling.{Bytes, process_text}
 use Rattle.fcp_model.specs.LogText.{event_line, event_lines, both_texts, entry_text, bindings_text, woken_text, places_text}
 use Rattle.fcp_model.specs.Translation.{program_of, start_of, started_goals}
-use Rattle.fcp_model.specs.Stands.{IsSoundStand}
-use Rattle.fcp_model.specs.WaitingProcesses.{waiting_of, with_process}
+use Rattle.fcp_model.specs.Stands.{NamesRise, IsSoundStand}
+use Rattle.fcp_model.specs.WaitingProcesses.{is_waiting, waiting_of, with_process}
 use Rattle.fcp_model.proofs.Leading.{led_on, taken}
 use Rattle.fcp_model.proofs.SoundStands.{start_ordered, begin_sound, leads_sound, front_is_ready}
 use Rattle.fcp_model.proofs.WaitingProcesses.{waiting_after_commit, woken_among_waiting, waiting_after_hang}
@@ -35,6 +35,7 @@ use Rattle.plain_engine.proofs.AddedTexts.{gives_known, gives_map, gives_same, a
 use Rattle.plain_engine.proofs.FrontRulings.{IsPlainStand, by_queue, front_ruled, front_passes, front_makes}
 use Rattle.plain_engine.proofs.Sounds.{are_among_more}
 use Rattle.plain_engine.proofs.OldGoals.{AreOldGoals-more, AreOldGoals-append, AreOldGoals-with}
+use Rattle.plain_engine.proofs.WaitingOrder.{rise_filter}
 
 -- the lines of one event more
 pub lines_more : (names : List Bytes) (evs : List Event) (ev : Event) (n : ℕ) → both_texts (event_lines n names evs) (event_line n names ev) ≡ event_lines n names (evs ++ ev ∷ [])
@@ -81,6 +82,10 @@ module _ (t : Task) (p : Process) (e : Engine) (r : IsReached t (process_of p �
   pub sound_stand : IsSoundStand r.at
   sound_stand = leads_sound m t.limits (begin (start_of t.loaded.now t.goal.now) []) r.events r.at
       (begin_sound (start_of t.loaded.now t.goal.now) [] (start_ordered (length t.goal.now.names) (started_goals t.loaded.now t.goal.now))) r.leads
+
+  -- the names of the waiting processes rise
+  pub waiting_rise : NamesRise (map waiting_process e.waiting.items)
+  waiting_rise = subst NamesRise r.stands.waiting (rise_filter (λ q. is_waiting q.status) r.at.state.processes sound_stand.ordered.rise)
 
   pub queue_is : r.at.queue ≡ process_of p ∷ rest
   queue_is = r.stands.queue

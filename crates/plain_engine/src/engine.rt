@@ -1,11 +1,12 @@
-ghost use Rattle.std.specs.Prelude.{◌≡◌, ◌+◌, ◌*◌, ◌≤◌, ◌<◌, ◌||◌, ℕ, suc, nat_le, nat_lt, List, [], ◌∷◌, length, IfOk, OnOk, IfSome, IfNone};
+ghost use Rattle.std.specs.Prelude.{◌≡◌, ◌+◌, ◌*◌, ◌≤◌, ◌<◌, ◌||◌, ℕ, suc, nat_le, nat_lt, List, [], ◌∷◌, length, map, IfOk, OnOk, IfSome, IfNone};
 ghost use Rattle.fcp_model.specs.Heads.{heads_in};
 ghost use Rattle.fcp_model.specs.Places.{Variable, places_among};
 ghost use Rattle.fcp_model.specs.Decisions.{commits, waits_on, Decides};
+ghost use Rattle.fcp_model.specs.Stands.{NamesRise};
 ghost use Rattle.fcp_model.specs.Translation.{program_of};
 ghost use Rattle.plain_engine.specs.Words.{binds_of, bound_of};
 ghost use Rattle.plain_engine.specs.Deciding.{Settles};
-ghost use Rattle.plain_engine.specs.Processes.{process_of};
+ghost use Rattle.plain_engine.specs.Processes.{process_of, waiting_process};
 ghost use Rattle.plain_engine.specs.Engines.{IsTask, IsReached, HasRoom, RuleGives, Commits, MayCommit, Hangs, Fails, Passes};
 
 use crate::children::push_children;
@@ -114,6 +115,7 @@ impl Engine {
 
     /// Makes a hang: the process comes among the waiting ones.
     fn hang(&mut self, process: Process, places: Vec<Place>, cells: u32) -> Result<(), NoMemory>
+        requires rise { NamesRise (map waiting_process self.old.waiting.items) }
         requires moves { self.old.moves + 1 < 4294967296 }
         requires cells { self.old.cells + cells < 4294967296 }
         ensures { OnOk result (Hangs self.old self.new process places.items cells) }

@@ -1,5 +1,6 @@
-ghost use Rattle.std.specs.Prelude.{◌≡◌, ◌≤◌, ◌∷◌, ◌++◌, length, map, take, drop, OnOk};
+ghost use Rattle.std.specs.Prelude.{◌≡◌, ◌≤◌, ◌∷◌, ◌++◌, not, length, map, take, drop, OnOk};
 ghost use Rattle.fcp_model.specs.States as run;
+ghost use Rattle.fcp_model.specs.Stands.{NamesRise};
 ghost use Rattle.fcp_model.specs.WaitingProcesses.{with_process, is_older_process};
 ghost use Rattle.plain_engine.specs.Processes.{waiting_process};
 
@@ -28,21 +29,23 @@ fn is_older(first: Proc, second: Proc) -> bool
     first.entry < second.entry || (first.entry == second.entry && first.number < second.number)
 }
 
-/// The position, from 0, of a process of that name among waiting ones, which stand in order of name.
+/// The position, from 0, of a process of that name among waiting ones, which stand in order of name. It is searched for by
+/// halves, since many may wait and each hang looks for one.
 fn position_of(waiting: &[Waiting], name: Proc) -> usize
+    requires { NamesRise (map waiting_process waiting.now) }
     ensures within { result ≤ length waiting.now }
     ensures position { (p : run.Process) → p.name ≡ name → with_process p (map waiting_process waiting.now) ≡ map waiting_process (take result waiting.now) ++ p ∷ map waiting_process (drop result waiting.now) }
 {
-    for (index, other) in waiting.iter().enumerate() {
-        if is_older(name, other.process.name) {
-            return index;
-        }
-    }
-    waiting.len()
+    waiting.partition_point(
+        |other: &Waiting| -> bool
+            ensures { result ≡ not (is_older_process name other.now.process.name) }
+        { !is_older(name, other.process.name) },
+    )
 }
 
 /// Puts a process among waiting ones in order of name.
 pub(crate) fn insert_waiting(waiting: &mut Vec<Waiting>, process: Waiting) -> Result<(), NoMemory>
+    requires { NamesRise (map waiting_process waiting.old.items) }
     ensures { OnOk result (map waiting_process waiting.new.items ≡ with_process (waiting_process process) (map waiting_process waiting.old.items)) }
 {
     let at = position_of(waiting.as_slice(), process.process.name);

@@ -1,10 +1,13 @@
 use Rattle.std.proofs.Common.{◌≡◌, ◌≤◌, ◌<◌, ◌+◌, ◌*◌, ◌∙◌, sym, ap, arith, length}
 use Rattle.fcp_model.specs.Places.{places_among}
 use Rattle.fcp_model.specs.Decisions.{waits_on}
-use Rattle.plain_engine.proofs.Reaching.{pass_reached, hang_reached}
+use Rattle.plain_engine.proofs.Reaching.{waiting_rise, pass_reached, hang_reached}
 use Rattle.plain_engine.proofs.RuleSteps.{lacking, not_lacking, passed_counts}
 use Rattle.plain_engine.proofs.engine.Engine.rule_hang.Goals as goal
 use Rattle.plain_engine.proofs.engine.Engine.rule_hang.Goals.{in_default-via-in-Some+else-not-lacks, in_default-via-in_default}
+
+pub hang-requires-clause-rise : goal.hang-requires-clause-rise
+hang-requires-clause-rise c = waiting_rise c.args.task.now c.args.process c.args.self.now c.requires.reached
 
 pub hang-requires-clause-moves : goal.hang-requires-clause-moves
 hang-requires-clause-moves c = omega (arith, c.requires.room.moves, c.requires.task.moves_fit)
