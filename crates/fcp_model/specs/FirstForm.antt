@@ -1,7 +1,6 @@
--- Modules and goals of strings and variables alone, over so many numbered strings.
-use Rattle.std.specs.Prelude.{ℕ, Bool, true, false, not, ◌&&◌, nat_eq, nat_lt, nat_le, List, [], ◌∷◌, length, Option, Some, None}
+-- Modules and goals of strings and variables alone.
+use Rattle.std.specs.Prelude.{ℕ, Bool, true, false, not, ◌&&◌, nat_eq, nat_le, List, [], ◌∷◌, length}
 use Rattle.std.specs.List.{list_all, list_any}
-use Rattle.fcp_model.specs.declared.names.Sym.{Sym}
 use Rattle.fcp_model.specs.declared.term.Term.{Term, fold-Term}
 use Rattle.fcp_model.specs.declared.term.Term.TheOpen.{Term-F}
 use Rattle.fcp_model.specs.declared.source.Call.{Call}
@@ -13,50 +12,46 @@ use Rattle.fcp_model.specs.declared.source.GoalText.{GoalText}
 use Rattle.fcp_model.specs.declared.loaded.Head.{Head}
 use Rattle.fcp_model.specs.Heads.{heads_in, same_head}
 
--- a string of the list, or an occurrence of one of the variables
-abbrev pub flat_step : ℕ → ℕ → Term-F Bool → Bool
-flat_step names vars (Term-F.Str s) = nat_lt s.0 names
-flat_step names vars (Term-F.Var k) = nat_le 1 k && nat_le k vars
-flat_step names vars (Term-F.Ro k) = nat_le 1 k && nat_le k vars
-flat_step names vars (Term-F.Int z) = false
-flat_step names vars Term-F.Nil = false
-flat_step names vars (Term-F.Cons a b) = false
-flat_step names vars (Term-F.Tuple ts) = false
+-- a string, or an occurrence of one of the variables
+abbrev pub flat_step : ℕ → Term-F Bool → Bool
+flat_step vars (Term-F.Str s) = true
+flat_step vars (Term-F.Var k) = nat_le 1 k && nat_le k vars
+flat_step vars (Term-F.Ro k) = nat_le 1 k && nat_le k vars
+flat_step vars (Term-F.Int z) = false
+flat_step vars Term-F.Nil = false
+flat_step vars (Term-F.Cons a b) = false
+flat_step vars (Term-F.Tuple ts) = false
 
-abbrev pub is_flat : ℕ → ℕ → Term → Bool
-is_flat names vars = fold-Term Bool (flat_step names vars)
+abbrev pub is_flat : ℕ → Term → Bool
+is_flat vars = fold-Term Bool (flat_step vars)
 
-abbrev pub are_flat : ℕ → ℕ → List Term → Bool
-are_flat names vars ts = nat_le (length ts) 64 && list_all (is_flat names vars) ts
+abbrev pub are_flat : ℕ → List Term → Bool
+are_flat vars ts = nat_le (length ts) 64 && list_all (is_flat vars) ts
 
 -- a name with flat arguments
-abbrev pub is_plain_call : ℕ → ℕ → Call → Bool
-is_plain_call names vars (User name args) = nat_lt name.0 names && are_flat names vars args
-is_plain_call names vars (Unify a b) = false
-is_plain_call names vars (Assign a e) = false
-is_plain_call names vars (Same a b) = false
-is_plain_call names vars (NotSame a b) = false
-is_plain_call names vars (Compare o a b) = false
+abbrev pub is_plain_call : ℕ → Call → Bool
+is_plain_call vars (User name args) = are_flat vars args
+is_plain_call vars (Unify a b) = false
+is_plain_call vars (Assign a e) = false
+is_plain_call vars (Same a b) = false
+is_plain_call vars (NotSame a b) = false
+is_plain_call vars (Compare o a b) = false
 
-abbrev pub are_plain_items : ℕ → ℕ → List Item → Bool
-are_plain_items names vars is = nat_le (length is) 256 && list_all (λ i. is_plain_call names vars i.call) is
+abbrev pub are_plain_items : ℕ → List Item → Bool
+are_plain_items vars is = nat_le (length is) 256 && list_all (λ i. is_plain_call vars i.call) is
 
 abbrev pub is_empty : List Item → Bool
 is_empty [] = true
 is_empty (i ∷ is) = false
 
-abbrev pub is_plain_clause : ℕ → Clause → Bool
-is_plain_clause names c = nat_le c.vars 250 && nat_lt c.head.0 names && are_flat names c.vars c.args && is_empty c.guard && are_plain_items names c.vars c.body
+abbrev pub is_plain_clause : Clause → Bool
+is_plain_clause c = nat_le c.vars 250 && are_flat c.vars c.args && is_empty c.guard && are_plain_items c.vars c.body
 
-abbrev pub is_plain_module : ℕ → Module → Bool
-is_plain_module names m = nat_le (length m.clauses) 1048576 && list_all (is_plain_clause names) m.clauses
+abbrev pub is_plain_module : Module → Bool
+is_plain_module m = nat_le (length m.clauses) 1048576 && list_all is_plain_clause m.clauses
 
-abbrev pub is_known_name : ℕ → Option Sym → Bool
-is_known_name names None = true
-is_known_name names (Some s) = nat_lt s.0 names
-
-abbrev pub is_plain_goal : ℕ → GoalText → Bool
-is_plain_goal names g = nat_le (length g.names) 250 && list_all (is_known_name names) g.names && are_plain_items names (length g.names) g.items
+abbrev pub is_plain_goal : GoalText → Bool
+is_plain_goal g = nat_le (length g.names) 250 && are_plain_items (length g.names) g.items
 
 -- the built-in process `true`
 abbrev pub is_true : ℕ → ℕ → Bool

@@ -114,7 +114,7 @@ fault-answers-show file f answer.TooLong h t = absurd t
 
 -- what runs is plain
 pub plain-goal : (m : Module) (g : GoalText) → is_runnable m g ≡ true → IsPlainGoal g
-plain-goal m g h = (4294967296, (and_parts (is_plain_module 4294967296 m && bodies_called m) (is_plain_goal 4294967296 g) (and_parts (is_plain_module 4294967296 m && bodies_called m && is_plain_goal 4294967296 g) (goal_called m g) h).0).1)
+plain-goal m g h = (and_parts (is_plain_module m && bodies_called m) (is_plain_goal g) (and_parts (is_plain_module m && bodies_called m && is_plain_goal g) (goal_called m g) h).0).1
 
 -- the answers where a module or a goal was refused
 pub refused-run : (file goal : Bytes) (names : List Bytes) (r : Refused) (a : Answer) → LoadsText file names (Err r) → TellsModule r a → AnswersRun file goal a

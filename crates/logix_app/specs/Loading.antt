@@ -43,6 +43,6 @@ pub record IsFirstGoalFault (file goal : Bytes) (f : Fault) : Type 0 where
   pub first : IsFirstGoalFaultFor m before goal f
 
 -- What runs so far: a module and a goal of strings and variables alone, without guards, whose items are calls of the
--- module's procedures. The number is that of all strings that can be numbered.
+-- module's procedures.
 abbrev pub is_runnable : Module → GoalText → Bool
-is_runnable m g = is_plain_module 4294967296 m && bodies_called m && is_plain_goal 4294967296 g && goal_called m g
+is_runnable m g = is_plain_module m && bodies_called m && is_plain_goal g && goal_called m g

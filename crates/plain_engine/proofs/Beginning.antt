@@ -37,7 +37,7 @@ no_bindings_sound n = record { ranked = record { rank = λ p. 0; falls = λ p q 
 
 -- the items of a plain goal are plain
 pub goal_plain : (t : Task) → IsTask t → ArePlainItems (length t.goal.now.names) t.goal.now.items
-goal_plain t h = (h.plain_goal.0, (and_parts _ _ h.plain_goal.1).1)
+goal_plain t h = (and_parts _ _ h.plain_goal).1
 
 -- what was put into an empty queue
 pub in_queue : (t : Task) (items : List Item) (old new : List Process) → items ≡ t.goal.now.items → old ≡ []

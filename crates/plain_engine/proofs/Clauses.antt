@@ -116,10 +116,10 @@ module _ (m : Module) (p : ℕ) (ps : List ℕ) (e : slice_get (positions_in m.c
 
 -- a clause of a module of the first form
 pub plain_at : (m : Module) (at : ℕ) (c : read.Clause) → IsPlain m → slice_get m.clauses at ≡ Some c → IsPlainClause c
-plain_at m at c p e = (p.0, passes_at (is_plain_clause p.0) m.clauses at c (and_parts _ _ p.1).1 e)
+plain_at m at c p e = passes_at is_plain_clause m.clauses at c (and_parts _ _ p).1 e
 
 pub few_clauses : (m : Module) → IsPlain m → length m.clauses ≤ 1048576
-few_clauses m p = below (length m.clauses) (and_parts _ _ p.1).0
+few_clauses m p = below (length m.clauses) (and_parts _ _ p).0
   where
     below : (a : ℕ) → nat_le a 1048576 ≡ true → a ≤ 1048576
     below a g = grind (arith, nat_tests)
@@ -131,6 +131,6 @@ empty_items (i ∷ is) e = cc
 -- it has no guard
 pub no_guard : (m : Module) (c : read.Clause) → IsPlainClause c → (clause_of (heads_in m.clauses) c).guard ≡ []
 no_guard m c p =
-    let a = and_parts _ _ p.1 in
+    let a = and_parts _ _ p in
     let b = and_parts _ _ a.0 in
     ap (filter_map (λ i. test_of i.call)) (empty_items c.guard b.1)

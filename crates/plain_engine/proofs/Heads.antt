@@ -35,16 +35,16 @@ unmarked : (b : Bool) (k : ℕ) → rename own (cond b (first k) (var k)) ≡ co
 unmarked true k = refl
 unmarked false k = refl
 
-nil_not_flat : (names vars : ℕ) → is_flat names vars source.Nil ≡ true → ⊥
-nil_not_flat names vars f = let e = fold-Nil Bool (flat_step names vars) in cc
+nil_not_flat : (vars : ℕ) → is_flat vars source.Nil ≡ true → ⊥
+nil_not_flat vars f = let e = fold-Nil Bool (flat_step vars) in cc
 
-module _ (names vars : ℕ) where
-  pub marks_word : (met : ℕ) (w : Word) → is_flat names vars (source_of w) ≡ true → Marks met w
+module _ (vars : ℕ) where
+  pub marks_word : (met : ℕ) (w : Word) → is_flat vars (source_of w) ≡ true → Marks met w
   marks_word met (Text t) f = record { item = rw (fold-Str (Term ℕ) term_step t) refl; after = rw (fold-Str (Term ℕ) term_step t) refl }
   marks_word met (Var (Own k)) f = record { item = rw (fold-Var (Term ℕ) term_step k) (unmarked (nat_lt met k) k); after = rw (fold-Var (Term ℕ) term_step k) refl }
   marks_word met (ReadOnly (Own k)) f = record { item = rw (fold-Ro (Term ℕ) term_step k) refl; after = rw (fold-Ro (Term ℕ) term_step k) refl }
-  marks_word met (Var (Made p)) f = absurd (nil_not_flat names vars f)
-  marks_word met (ReadOnly (Made p)) f = absurd (nil_not_flat names vars f)
+  marks_word met (Var (Made p)) f = absurd (nil_not_flat vars f)
+  marks_word met (ReadOnly (Made p)) f = absurd (nil_not_flat vars f)
 
   number_flat : (k : ℕ) → (nat_le 1 k && nat_le k vars) ≡ true → (1 ≤ k) × (k ≤ vars)
   number_flat k e = let h = and_parts _ _ e in (above k h.0, below k h.1)
@@ -56,25 +56,25 @@ module _ (names vars : ℕ) where
       below a g = grind (arith, nat_tests)
 
   -- the number of a variable in a head
-  flat_var : (k : ℕ) → is_flat names vars (source.Var k) ≡ true → (1 ≤ k) × (k ≤ vars)
-  flat_var k f = number_flat k (sym (fold-Var Bool (flat_step names vars) k) ∙ f)
+  flat_var : (k : ℕ) → is_flat vars (source.Var k) ≡ true → (1 ≤ k) × (k ≤ vars)
+  flat_var k f = number_flat k (sym (fold-Var Bool (flat_step vars) k) ∙ f)
 
-  flat_ro : (k : ℕ) → is_flat names vars (source.Ro k) ≡ true → (1 ≤ k) × (k ≤ vars)
-  flat_ro k f = number_flat k (sym (fold-Ro Bool (flat_step names vars) k) ∙ f)
+  flat_ro : (k : ℕ) → is_flat vars (source.Ro k) ≡ true → (1 ≤ k) × (k ≤ vars)
+  flat_ro k f = number_flat k (sym (fold-Ro Bool (flat_step vars) k) ∙ f)
 
-  pub word_met : (n met : ℕ) (w : Word) → is_flat names vars (source_of w) ≡ true → IsWordAmong n (met_after met w) w
+  pub word_met : (n met : ℕ) (w : Word) → is_flat vars (source_of w) ≡ true → IsWordAmong n (met_after met w) w
   word_met n met (Text t) f = λ q m. absurd m
   word_met n met (Var (Own k)) f = λ q m. subst (IsAmong n (max met k)) (sym m) ((flat_var k f).0, omega arith)
   word_met n met (ReadOnly (Own k)) f = λ q m. subst (IsAmong n (max met k)) (sym m) ((flat_ro k f).0, omega arith)
-  word_met n met (Var (Made p)) f = absurd (nil_not_flat names vars f)
-  word_met n met (ReadOnly (Made p)) f = absurd (nil_not_flat names vars f)
+  word_met n met (Var (Made p)) f = absurd (nil_not_flat vars f)
+  word_met n met (ReadOnly (Made p)) f = absurd (nil_not_flat vars f)
 
-  pub met_within : (met : ℕ) (w : Word) → is_flat names vars (source_of w) ≡ true → met ≤ vars → met_after met w ≤ vars
+  pub met_within : (met : ℕ) (w : Word) → is_flat vars (source_of w) ≡ true → met ≤ vars → met_after met w ≤ vars
   met_within met (Text t) f h = h
   met_within met (Var (Own k)) f h = let i = flat_var k f in omega (arith, i.1)
   met_within met (ReadOnly (Own k)) f h = let i = flat_ro k f in omega (arith, i.1)
-  met_within met (Var (Made p)) f h = absurd (nil_not_flat names vars f)
-  met_within met (ReadOnly (Made p)) f h = absurd (nil_not_flat names vars f)
+  met_within met (Var (Made p)) f h = absurd (nil_not_flat vars f)
+  met_within met (ReadOnly (Made p)) f h = absurd (nil_not_flat vars f)
 
 -- what passes at each item passes at one
 pub passes_at : {X : Type 0} (p : X → Bool) (xs : List X) (i : ℕ) (x : X) → list_all p xs ≡ true → slice_get xs i ≡ Some x → p x ≡ true
@@ -85,10 +85,10 @@ passes_at p (y ∷ xs) (suc i) x h e = passes_at p xs i x (and_parts _ _ h).1 e
 -- an argument of a head
 pub flat_at : (c : Clause) (i : ℕ) (t : source.Term) → IsPlainClause c → slice_get c.args i ≡ Some t → IsFlat c.vars t
 flat_at c i t p e =
-    let a = and_parts _ _ p.1 in
+    let a = and_parts _ _ p in
     let b = and_parts _ _ a.0 in
     let d = and_parts _ _ b.0 in
-    (p.0, passes_at (is_flat p.0 c.vars) c.args i t (and_parts _ _ d.1).1 e)
+    passes_at (is_flat c.vars) c.args i t (and_parts _ _ d.1).1 e
 
 pub drop_at : {X : Type 0} (xs : List X) (i : ℕ) (x : X) → slice_get xs i ≡ Some x → drop i xs ≡ x ∷ drop (i + 1) xs
 drop_at xs i x e = rw (add-one, drop-cons xs i x (slice_get_within xs i x e)) (ap (λ y. y ∷ drop (suc i) xs) (get_or_from_slice_get xs i x x e))
@@ -97,10 +97,10 @@ drop_at xs i x e = rw (add-one, drop-cons xs i x (slice_get_within xs i x e)) (a
 abbrev pub pairs_left : List Word → List source.Term → ℕ → ℕ → List Pair
 pairs_left args head met at = head_pairs met (map term_of_word (drop at args)) (map term_of (drop at head))
 
-pub one_left : (names vars : ℕ) (args : List Word) (head : List source.Term) (met at : ℕ) (arg w : Word) (t : source.Term) → slice_get args at ≡ Some arg → slice_get head at ≡ Some t → t ≡ source_of w → is_flat names vars t ≡ true
+pub one_left : (vars : ℕ) (args : List Word) (head : List source.Term) (met at : ℕ) (arg w : Word) (t : source.Term) → slice_get args at ≡ Some arg → slice_get head at ≡ Some t → t ≡ source_of w → is_flat vars t ≡ true
     → pairs_left args head met at ≡ (term_of_word arg, marked_first met w) ∷ pairs_left args head (met_after met w) (at + 1)
-one_left names vars args head met at arg w t a h e f =
-    let m = marks_word names vars met w (sym (ap (is_flat names vars) e) ∙ f) in
+one_left vars args head met at arg w t a h e f =
+    let m = marks_word vars met w (sym (ap (is_flat vars) e) ∙ f) in
     (λ i. head_pairs met (map term_of_word (drop_at args at arg a i)) (map term_of ((drop_at head at t h ∙ ap (λ x. x ∷ drop (at + 1) head) e) i)))
     ∙ (λ i. (term_of_word arg, m.item i) ∷ head_pairs (m.after i) (map term_of_word (drop (at + 1) args)) (map term_of (drop (at + 1) head)))
 
@@ -216,11 +216,11 @@ pub head_step : (c : Clause) (args : List Word) (items : List source.Term) (met 
 head_step c args items met at arg w t p same h e a s =
     let there : slice_get c.args at ≡ Some t = slice_get_read c.args (length items) at t (ap length same) h (e ∙ ap (λ xs. get_or xs at t) same) in
     let f : IsFlat c.vars t = flat_at c at t p there in
-    let g : is_flat f.0 c.vars (source_of w) ≡ true = sym (ap (is_flat f.0 c.vars) s) ∙ f.1 in
+    let g : IsFlat c.vars (source_of w) = sym (ap (is_flat c.vars) s) ∙ f in
     record {
-      left = one_left f.0 c.vars args c.args met at arg w t a there s f.1;
-      named = λ n. word_met f.0 c.vars n met w g;
-      within = λ i. met_within f.0 c.vars met w g i;
+      left = one_left c.vars args c.args met at arg w t a there s f;
+      named = λ n. word_met c.vars n met w g;
+      within = λ i. met_within c.vars met w g i;
     }
 
 pub old_at : (n : ℕ) (args : List Word) (at : ℕ) (arg : Word) → All (IsOld n) args → slice_get args at ≡ Some arg → IsOld n arg

@@ -1,6 +1,6 @@
 -- The clause by which a goal commits.
 use Rattle.std.proofs.Common.{◌≡◌, ℕ, ◌+◌, ◌-◌, ◌<◌, ◌≤◌, Bool, true, List, [], ◌∷◌, length, get_or, Option, Some, None, refl, sym, ap, ◌∙◌, arith}
-use Rattle.std.specs.Prelude.{slice_get, ◌&&◌, nat_le, nat_lt}
+use Rattle.std.specs.Prelude.{slice_get, ◌&&◌, nat_le}
 use Rattle.std.proofs.lemmas.Bool.{and_parts}
 use Rattle.std.proofs.lemmas.Option.{slice_get-get_or}
 use Rattle.fcp_model.specs.declared.source.Clause.{Clause}
@@ -31,4 +31,4 @@ pub body_called : (m : Module) (at : ℕ) (c : Clause) → bodies_called m ≡ t
 body_called m at c h e = passes_at (λ (d : Clause). are_called (heads_in m.clauses) d.body) m.clauses at c h e
 
 pub body_plain : (c : Clause) → IsPlainClause c → ArePlainItems c.vars c.body
-body_plain c p = (p.0, (and_parts (nat_le c.vars 250 && nat_lt c.head.0 p.0 && are_flat p.0 c.vars c.args && is_empty c.guard) (are_plain_items p.0 c.vars c.body) p.1).1)
+body_plain c p = (and_parts (nat_le c.vars 250 && are_flat c.vars c.args && is_empty c.guard) (are_plain_items c.vars c.body) p).1

@@ -1,6 +1,6 @@
 -- Calls whose variables are places of the entries so far.
 use Rattle.std.proofs.Common.{◌≡◌, ℕ, zero, suc, ◌≤◌, ◌<◌, Bool, true, false, cond, ◌&&◌, List, [], ◌∷◌, ◌++◌, length, map, refl, sym, ap, ◌∙◌, subst, arith}
-use Rattle.std.specs.Prelude.{filter, not, nat_lt, nat_le}
+use Rattle.std.specs.Prelude.{filter, not, nat_le}
 use Rattle.std.specs.List.{list_all, list_any, position_or_len}
 use Rattle.std.proofs.lemmas.Bool.{and_parts}
 use Rattle.fcp_model.specs.declared.names.Sym.{Sym}
@@ -18,7 +18,7 @@ use Rattle.fcp_model.specs.Events.{made_ready}
 use Rattle.fcp_model.specs.WaitingProcesses.{with_process, is_older_process}
 use Rattle.fcp_model.specs.Ranks.{Mentions}
 use Rattle.fcp_model.specs.Translation.{term_of, term_step, head_called, user_goal, goal_of, goals_of}
-use Rattle.fcp_model.specs.FirstForm.{is_flat, flat_step, are_flat, is_plain_call, are_plain_items, is_true, is_called, are_called}
+use Rattle.fcp_model.specs.FirstForm.{is_flat, flat_step, is_plain_call, are_plain_items, is_true, is_called, are_called}
 use Rattle.fcp_model.proofs.Folds.{term_induction, fold-Int, fold-Str, fold-Nil, fold-Cons, fold-Tuple, fold-Var, fold-Ro}
 use Rattle.plain_engine.specs.Plain.{ArePlainItems}
 use Rattle.plain_engine.specs.Sound.{IsAmong}
@@ -66,27 +66,27 @@ module _ (procedures n : ℕ) where
       go true rec = (h, i)
       go false rec = (i.0, rec)
 
-module _ (names vars n : ℕ) where
+module _ (vars n : ℕ) where
   abbrev Old : source.Term → Type 0
-  Old t = is_flat names vars t ≡ true → (q : Variable) → Mentions q (rename (placed n) (term_of t)) → IsAmong n 0 q
+  Old t = is_flat vars t ≡ true → (q : Variable) → Mentions q (rename (placed n) (term_of t)) → IsAmong n 0 q
 
   here : (k : ℕ) (q : Variable) → q ≡ placed n k → IsAmong n 0 q
   here k q e = let within : n ≤ n = omega arith in subst (IsAmong n 0) (sym e) within
 
   flat_old : (t : source.Term) → Old t
   flat_old = term_induction Old
-      (λ z h. let e = fold-Int Bool (flat_step names vars) z in cc)
+      (λ z h. let e = fold-Int Bool (flat_step vars) z in cc)
       (λ s h q m. absurd (subst (λ u. Mentions q (rename (placed n) u)) (fold-Str (Term ℕ) term_step s) m))
-      (λ h. let e = fold-Nil Bool (flat_step names vars) in cc)
-      (λ a b i j h. let e = fold-Cons Bool (flat_step names vars) a b in cc)
-      (λ ts each h. let e = fold-Tuple Bool (flat_step names vars) ts in cc)
+      (λ h. let e = fold-Nil Bool (flat_step vars) in cc)
+      (λ a b i j h. let e = fold-Cons Bool (flat_step vars) a b in cc)
+      (λ ts each h. let e = fold-Tuple Bool (flat_step vars) ts in cc)
       (λ k h q m. here k q (subst (λ u. Mentions q (rename (placed n) u)) (fold-Var (Term ℕ) term_step k) m))
       (λ k h q m. here k q (subst (λ u. Mentions q (rename (placed n) u)) (fold-Ro (Term ℕ) term_step k) m))
 
-  all_flat_old : (ts : List source.Term) → list_all (is_flat names vars) ts ≡ true → AreOldTerms n (map (rename (placed n)) (map term_of ts))
+  all_flat_old : (ts : List source.Term) → list_all (is_flat vars) ts ≡ true → AreOldTerms n (map (rename (placed n)) (map term_of ts))
   all_flat_old [] h = tt
   all_flat_old (t ∷ ts) h =
-      let parts = and_parts (is_flat names vars t) (list_all (is_flat names vars) ts) h in
+      let parts = and_parts (is_flat vars t) (list_all (is_flat vars) ts) h in
       (flat_old t parts.0, all_flat_old ts parts.1)
 
 module _ (hs : List Head) (n : ℕ) where
@@ -107,27 +107,26 @@ module _ (hs : List Head) (n : ℕ) where
       let parts = and_parts (not (is_true name.0 (suc k))) (list_any (same_head (head_called name (suc k))) hs) h in
       (any_found (same_head (head_called name (suc k))) hs parts.1, i)
 
-  call_old : (names vars : ℕ) (call : Call) → is_plain_call names vars call ≡ true → is_called hs call ≡ true → IsOldHere (goal_of hs call)
-  call_old names vars (User name args) plain called =
-      let flat = and_parts (nat_lt name.0 names) (are_flat names vars args) plain in
-      let each = and_parts (nat_le (length args) 64) (list_all (is_flat names vars) args) flat.1 in
-      user_old name (length args) (map term_of args) called (all_flat_old names vars n args each.1)
-  call_old names vars (Unify a b) plain called = cc
-  call_old names vars (Assign a e) plain called = cc
-  call_old names vars (Same a b) plain called = cc
-  call_old names vars (NotSame a b) plain called = cc
-  call_old names vars (Compare o a b) plain called = cc
+  call_old : (vars : ℕ) (call : Call) → is_plain_call vars call ≡ true → is_called hs call ≡ true → IsOldHere (goal_of hs call)
+  call_old vars (User name args) plain called =
+      let each = and_parts (nat_le (length args) 64) (list_all (is_flat vars) args) plain in
+      user_old name (length args) (map term_of args) called (all_flat_old vars n args each.1)
+  call_old vars (Unify a b) plain called = cc
+  call_old vars (Assign a e) plain called = cc
+  call_old vars (Same a b) plain called = cc
+  call_old vars (NotSame a b) plain called = cc
+  call_old vars (Compare o a b) plain called = cc
 
-  items_old : (names vars k : ℕ) (items : List Item) → list_all (λ i. is_plain_call names vars i.call) items ≡ true → are_called hs items ≡ true
+  items_old : (vars k : ℕ) (items : List Item) → list_all (λ i. is_plain_call vars i.call) items ≡ true → are_called hs items ≡ true
       → AreOldGoals (length hs) n (run.processes_of n k (map (rename_goal (placed n)) (goals_of hs items)))
-  items_old names vars k [] plain called = tt
-  items_old names vars k (item ∷ items) plain called =
-      let one = and_parts (is_plain_call names vars item.call) (list_all (λ i. is_plain_call names vars i.call) items) plain in
+  items_old vars k [] plain called = tt
+  items_old vars k (item ∷ items) plain called =
+      let one = and_parts (is_plain_call vars item.call) (list_all (λ i. is_plain_call vars i.call) items) plain in
       let two = and_parts (is_called hs item.call) (are_called hs items) called in
-      (call_old names vars item.call one.0 two.0, items_old names vars (suc k) items one.1 two.1)
+      (call_old vars item.call one.0 two.0, items_old vars (suc k) items one.1 two.1)
 
 -- the processes that an entry makes for plain items that call procedures of the module
 pub child_goals_old : (hs : List Head) (n k vars : ℕ) (items : List Item) → ArePlainItems vars items → are_called hs items ≡ true
     → AreOldGoals (length hs) n (run.processes_of n k (map (rename_goal (placed n)) (goals_of hs items)))
 child_goals_old hs n k vars items plain called =
-    items_old hs n plain.0 vars k items (and_parts (nat_le (length items) 256) (list_all (λ i. is_plain_call plain.0 vars i.call) items) plain.1).1 called
+    items_old hs n vars k items (and_parts (nat_le (length items) 256) (list_all (λ i. is_plain_call vars i.call) items) plain).1 called

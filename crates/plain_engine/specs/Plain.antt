@@ -8,27 +8,27 @@ use Rattle.fcp_model.specs.declared.source.Module.{Module}
 use Rattle.fcp_model.specs.declared.source.GoalText.{GoalText}
 use Rattle.fcp_model.specs.FirstForm.{is_flat, are_flat, is_plain_call, are_plain_items, is_plain_clause, is_plain_module, is_plain_goal}
 
--- a module of strings and variables alone, over some number of strings
+-- a module of strings and variables alone
 abbrev pub IsPlain : Module → Type 0
-IsPlain m = (names : ℕ) × (is_plain_module names m ≡ true)
+IsPlain m = is_plain_module m ≡ true
 
 -- such a clause
 abbrev pub IsPlainClause : Clause → Type 0
-IsPlainClause c = (names : ℕ) × (is_plain_clause names c ≡ true)
+IsPlainClause c = is_plain_clause c ≡ true
 
 -- a string or one of the first `vars` variables
 abbrev pub IsFlat : ℕ → Term → Type 0
-IsFlat vars t = (names : ℕ) × (is_flat names vars t ≡ true)
+IsFlat vars t = is_flat vars t ≡ true
 
 abbrev pub AreFlat : ℕ → List Term → Type 0
-AreFlat vars ts = (names : ℕ) × (are_flat names vars ts ≡ true)
+AreFlat vars ts = are_flat vars ts ≡ true
 
 -- a call with flat arguments
 abbrev pub IsPlainCall : ℕ → Call → Type 0
-IsPlainCall vars c = (names : ℕ) × (is_plain_call names vars c ≡ true)
+IsPlainCall vars c = is_plain_call vars c ≡ true
 
 abbrev pub ArePlainItems : ℕ → List Item → Type 0
-ArePlainItems vars is = (names : ℕ) × (are_plain_items names vars is ≡ true)
+ArePlainItems vars is = are_plain_items vars is ≡ true
 
 abbrev pub IsPlainGoal : GoalText → Type 0
-IsPlainGoal g = (names : ℕ) × (is_plain_goal names g ≡ true)
+IsPlainGoal g = is_plain_goal g ≡ true
