@@ -2,3 +2,4 @@ pub mod Answering
 pub mod CalledItems
 pub mod Loaded
 pub mod Pieces
+pub mod Simple

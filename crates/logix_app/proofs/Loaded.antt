@@ -1,19 +1,23 @@
 -- What the texts of a module and a goal are, and what is answered to them.
-use Rattle.std.proofs.Common.{◌≡◌, ℕ, true, false, List, [], ap, sym, ◌∙◌, subst, refl, Ok, Err}
-use Rattle.std.specs.Prelude.{Result, Some, codes, ◌&&◌}
+use Rattle.std.proofs.Common.{◌≡◌, ◌≤◌, ℕ, true, false, List, [], length, ap, sym, ◌∙◌, subst, refl, arith, Ok, Err}
+use Rattle.std.specs.Prelude.{Result, IfOk, Some, codes, ◌&&◌}
 use Rattle.std.proofs.lemmas.Bool.{and_parts}
 use Rattle.fcp_model.specs.declared.fault.Fault.{Fault}
 use Rattle.fcp_model.specs.declared.fault.Refused.{Refused}
 use Rattle.fcp_model.specs.declared.fault.Refused.TheVariants as refused
 use Rattle.fcp_model.specs.declared.source.Module.{Module}
 use Rattle.fcp_model.specs.declared.source.GoalText.{GoalText}
-use Rattle.fcp_model.specs.FirstForm.{is_plain_module, bodies_called, is_plain_goal, goal_called}
+use Rattle.fcp_model.specs.FirstForm.{bodies_called, goal_called}
 use Rattle.fcp_model.specs.NameList.{reserved_names}
 use Rattle.fcp_model.specs.Spelling.{Bytes}
 use Rattle.fcp_loader.specs.Faults.{faults_of, goal_faults_of}
 use Rattle.fcp_loader.specs.Loading.{Loads, LoadsGoal}
 use Rattle.fcp_reader.specs.Sources.{IsModule, IsGoal, ReadsModule, ReadsGoal}
-use Rattle.plain_engine.specs.Plain.{IsPlainGoal}
+use Rattle.fcp_reader.specs.Limits.{is_module_within, is_goal_within}
+use Rattle.fcp_reader.proofs.TextLimits.{texts_keep_limits_law}
+use Rattle.plain_engine.specs.Plain.{IsPlain, IsPlainGoal}
+use Rattle.logix_app.specs.FirstForms.{is_simple_module, is_simple_goal}
+use Rattle.logix_app.proofs.Simple.{simple_module, simple_goal}
 use Rattle.logix_app.specs.declared.answer.Answer.{Answer}
 use Rattle.logix_app.specs.declared.answer.Answer.TheVariants as answer
 use Rattle.logix_app.specs.Headline.{fault_line}
@@ -112,9 +116,25 @@ fault-answers-show file f answer.Usage h t = absurd t
 fault-answers-show file f answer.ShelfFault h t = absurd t
 fault-answers-show file f answer.TooLong h t = absurd t
 
--- what runs is plain
-pub plain-goal : (m : Module) (g : GoalText) → is_runnable m g ≡ true → IsPlainGoal g
-plain-goal m g h = (and_parts (is_plain_module m && bodies_called m) (is_plain_goal g) (and_parts (is_plain_module m && bodies_called m && is_plain_goal g) (goal_called m g) h).0).1
+-- what runs is what the engine takes, where it keeps the limits
+pub plain-module : (m : Module) (g : GoalText) → is_runnable m g ≡ true → is_module_within m ≡ true → length m.clauses ≤ 1048576 → IsPlain m
+plain-module m g h w few = simple_module m (and_parts (is_simple_module m) (bodies_called m) (and_parts (is_simple_module m && bodies_called m) (is_simple_goal g) (and_parts (is_simple_module m && bodies_called m && is_simple_goal g) (goal_called m g) h).0).0).0 w few
+
+pub plain-goal : (m : Module) (g : GoalText) → is_runnable m g ≡ true → is_goal_within g ≡ true → IsPlainGoal g
+plain-goal m g h w = simple_goal g (and_parts (is_simple_module m && bodies_called m) (is_simple_goal g) (and_parts (is_simple_module m && bodies_called m && is_simple_goal g) (goal_called m g) h).0).1 w
+
+-- what was read and loaded keeps the limits
+pub within-text : (before : List Bytes) (file : Bytes) (after : List Bytes) (m : Module) (r : Result Module Refused) → length file ≤ 1048576 → ReadsModule before file after (Ok m) → Loads m r → IfOk r (λ l. (is_module_within l ≡ true) × (length l.clauses ≤ 1048576))
+within-text before file after m (Ok l) short read load =
+    let limits = texts_keep_limits_law.0 before file m read.0 in
+    let few : length m.clauses ≤ length file = limits.1 in
+    let fewer : length m.clauses ≤ 1048576 = omega arith in
+    subst (λ (x : Module). (is_module_within x ≡ true) × (length x.clauses ≤ 1048576)) (sym load.same) (limits.0, fewer)
+within-text before file after m (Err e) short read load = tt
+
+pub within-goal : (m : Module) (before : List Bytes) (goal : Bytes) (after : List Bytes) (g : GoalText) (r : Result (GoalText × List ℕ) Refused) → ReadsGoal before goal after (Ok g) → LoadsGoal m g r → IfOk r (λ l. is_goal_within l.0 ≡ true)
+within-goal m before goal after g (Ok l) read load = subst (λ (x : GoalText). is_goal_within x ≡ true) (sym load.same) (texts_keep_limits_law.1 before goal g read.0)
+within-goal m before goal after g (Err e) read load = tt
 
 -- the answers where a module or a goal was refused
 pub refused-run : (file goal : Bytes) (names : List Bytes) (r : Refused) (a : Answer) → LoadsText file names (Err r) → TellsModule r a → AnswersRun file goal a

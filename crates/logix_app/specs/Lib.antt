@@ -1,3 +1,4 @@
+pub mod FirstForms
 pub mod Headline
 pub mod Loading
 pub mod Parts

@@ -1,13 +1,14 @@
 //! The answers to the texts of a module and a goal.
-ghost use Rattle.std.specs.Prelude.{◌≡◌, ◌≤◌, length};
+ghost use Rattle.std.specs.Prelude.{◌≡◌, ◌≤◌, true, length, IfOk};
 ghost use Rattle.fcp_model.specs.NameList.{reserved_names};
+ghost use Rattle.fcp_reader.specs.Limits.{is_module_within, is_goal_within};
 ghost use Rattle.logix_app.specs.Headline.{default_limits};
 ghost use Rattle.logix_app.specs.Loading.{is_runnable};
 ghost use Rattle.logix_app.specs.Parts.{LoadsText, LoadsGoalText, AnswersRun, AnswersShow, AnswersLoaded, AnswersGoal};
 
 use crate::answer::Answer;
 use crate::called::{are_bodies_called, are_called};
-use crate::first_form::{is_plain, is_plain_goal};
+use crate::first_form::{is_simple_goal, is_simple_module};
 use crate::lines::{goal_refusal, module_refusal};
 use fcp_loader::{load, load_goal};
 use fcp_model::{GoalText, Limits, Loaded, LoadedGoal, Names, Refused};
@@ -39,7 +40,8 @@ fn limits() -> Limits
 fn load_text(alloc: Global, file: &[u8], names: &mut Names) -> Result<Loaded, Refused>
     requires few { length file.now ≤ 1048576 }
     requires fresh { names.old ≡ reserved_names }
-    ensures { LoadsText file.now names.new result }
+    ensures loads { LoadsText file.now names.new result }
+    ensures within { IfOk result (λ m. (is_module_within m ≡ true) × (length m.clauses ≤ 1048576)) }
 {
     match read_module(alloc, file, names) {
         Ok(module) => load(alloc, module),
@@ -55,7 +57,8 @@ fn load_goal_text(
     names: &mut Names,
 ) -> Result<LoadedGoal, Refused>
     requires { length goal.now ≤ 1048576 }
-    ensures { LoadsGoalText loaded.now names.old goal.now names.new result }
+    ensures loads { LoadsGoalText loaded.now names.old goal.now names.new result }
+    ensures within { IfOk result (λ g. is_goal_within g.0 ≡ true) }
 {
     match read_goal(alloc, goal, names) {
         Ok(goal) => load_goal(alloc, loaded, goal),
@@ -67,14 +70,17 @@ fn load_goal_text(
 fn is_runnable(loaded: &Loaded, goal: &GoalText) -> bool
     ensures { result ≡ is_runnable loaded.now goal.now }
 {
-    is_plain(loaded)
+    is_simple_module(loaded)
         && are_bodies_called(loaded)
-        && is_plain_goal(goal)
+        && is_simple_goal(goal)
         && are_called(loaded, goal.items.as_slice())
 }
 
-/// The run of a goal over a module, where both are of what runs so far.
+/// The run of a goal over a module, where both are of what runs so far. Both keep the limits of the language.
 fn answer_loaded(alloc: Global, names: &Names, loaded: &Loaded, goal: &GoalText) -> Answer
+    requires within { is_module_within loaded.now ≡ true }
+    requires few { length loaded.now.clauses ≤ 1048576 }
+    requires goal_within { is_goal_within goal.now ≡ true }
     ensures { AnswersLoaded names.now loaded.now goal.now result }
 {
     if is_runnable(loaded, goal) {
@@ -87,9 +93,11 @@ fn answer_loaded(alloc: Global, names: &Names, loaded: &Loaded, goal: &GoalText)
     }
 }
 
-/// The answer to the text of a goal for a module.
+/// The answer to the text of a goal for a module that keeps the limits of the language.
 fn answer_goal(alloc: Global, names: Names, loaded: &Loaded, goal: &[u8]) -> Answer
-    requires { length goal.now ≤ 1048576 }
+    requires short { length goal.now ≤ 1048576 }
+    requires within { is_module_within loaded.now ≡ true }
+    requires few { length loaded.now.clauses ≤ 1048576 }
     ensures { AnswersGoal names loaded.now goal.now result }
 {
     let mut names = names;

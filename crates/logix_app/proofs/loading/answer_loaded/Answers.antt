@@ -1,6 +1,9 @@
 use Rattle.std.proofs.Common.{sym, ◌∙◌}
-use Rattle.logix_app.proofs.Loaded.{plain-goal}
+use Rattle.logix_app.proofs.Loaded.{plain-module, plain-goal}
 use Rattle.logix_app.proofs.loading.answer_loaded.Goals as goal
 
+pub run_goal-requires-clause-plain : goal.run_goal-requires-clause-plain
+run_goal-requires-clause-plain c = plain-module c.args.loaded.now c.args.goal.now (sym c.is_runnable.ensures ∙ c.if-is_runnable.true) c.requires.within c.requires.few
+
 pub run_goal-requires-clause-plain_goal : goal.run_goal-requires-clause-plain_goal
-run_goal-requires-clause-plain_goal c = plain-goal c.args.loaded.now c.args.goal.now (sym c.is_runnable.ensures ∙ c.if-is_runnable.true)
+run_goal-requires-clause-plain_goal c = plain-goal c.args.loaded.now c.args.goal.now (sym c.is_runnable.ensures ∙ c.if-is_runnable.true) c.requires.goal_within
