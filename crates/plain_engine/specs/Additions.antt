@@ -29,9 +29,11 @@ word_text names (ReadOnly v) = variable_text (variable_of v) ++ codes "?"
 abbrev pub commit_line : ℕ → Proc → ℕ → Bytes → List Proc → Bytes
 commit_line entry process clause bindings woken = decimal entry ++ codes " " ++ (codes "commit " ++ process_text process ++ codes " " ++ decimal clause ++ bindings ++ woken_text woken) ++ codes "\n"
 
+-- the line of a hang
 abbrev pub hang_line : ℕ → Proc → List Place → Bytes
 hang_line entry process places = decimal entry ++ codes " " ++ (codes "hang " ++ process_text process ++ places_text places) ++ codes "\n"
 
+-- the line of a fail
 abbrev pub fail_line : ℕ → Proc → Bytes
 fail_line entry process = decimal entry ++ codes " " ++ (codes "fail " ++ process_text process) ++ codes "\n"
 

@@ -31,6 +31,7 @@ pub record Settles (n : ℕ) (m : Program) (s : Bindings) (g : Goal Variable) (k
   pub fresh : AreFresh s (settled (suc n) bs)
   pub sound : IsSound (suc n) (s ++ settled (suc n) bs)
 
+-- what a commit binds keeps the bindings sound
 abbrev pub KeepsSound : ℕ → Program → Bindings → Goal Variable → Decision → Type 0
 KeepsSound n m s g (Commit k bs) = Settles n m s g k (binds_of bs.items)
 KeepsSound n m s g (Hang ps) = Unit {0}

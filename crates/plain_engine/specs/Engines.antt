@@ -49,6 +49,7 @@ IsOldGoal procedures n true' = ⊥
 IsOldGoal procedures n (unifies t u) = ⊥
 IsOldGoal procedures n (assigns t e) = ⊥
 
+-- each process calls a procedure of the module, with such terms
 abbrev pub AreOldGoals : ℕ → ℕ → List run.Process → Type 0
 AreOldGoals procedures n [] = Unit {0}
 AreOldGoals procedures n (p ∷ ps) = IsOldGoal procedures n p.goal × AreOldGoals procedures n ps

@@ -18,6 +18,7 @@ use Rattle.plain_engine.specs.declared.pairing.Unified.TheVariants.{Done, Clash,
 use Rattle.plain_engine.specs.Words.{variable_of, term_of_word, bound_by, read_by}
 use Rattle.plain_engine.specs.Values.{look_of}
 
+-- what a move comes to in the definitions
 abbrev pub step_of : Move → Step
 step_of Nothing = nothing
 step_of (Bind v w) = binds (variable_of v) (term_of_word w)

@@ -20,6 +20,7 @@ IsPlainClause c = is_plain_clause c ≡ true
 abbrev pub IsFlat : ℕ → Term → Type 0
 IsFlat vars t = is_flat vars t ≡ true
 
+-- such terms, at most 64
 abbrev pub AreFlat : ℕ → List Term → Type 0
 AreFlat vars ts = are_flat vars ts ≡ true
 
@@ -27,8 +28,10 @@ AreFlat vars ts = are_flat vars ts ≡ true
 abbrev pub IsPlainCall : ℕ → Call → Type 0
 IsPlainCall vars c = is_plain_call vars c ≡ true
 
+-- such calls, at most 256
 abbrev pub ArePlainItems : ℕ → List Item → Type 0
 ArePlainItems vars is = are_plain_items vars is ≡ true
 
+-- a goal of such calls
 abbrev pub IsPlainGoal : GoalText → Type 0
 IsPlainGoal g = is_plain_goal g ≡ true

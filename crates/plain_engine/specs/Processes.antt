@@ -12,6 +12,7 @@ use Rattle.plain_engine.specs.Deciding.{goal_with}
 abbrev pub child_of : Proc → Goal Variable → run.Process
 child_of name goal = record { name = name; goal = goal; status = run.ready }
 
+-- a process of the engine as one of the definitions, Ready
 abbrev pub process_of : Process → run.Process
 process_of p = child_of p.name (goal_with p.procedure p.args.items)
 

@@ -25,9 +25,11 @@ IsNoFarther s w v = (rest : Bindings) → Ranked (s ++ rest) → IsNearer (s ++ 
 abbrev pub IsShortcutOf : Bindings → word_variable.Variable → Word → Type 0
 IsShortcutOf s v w = (rest : Bindings) → Ranked (s ++ rest) → LeadsTo (s ++ rest) (Var v) w × LeadsTo (s ++ rest) (ReadOnly v) (marked w)
 
+-- the word stands on the way from the place to its value
 abbrev pub IsShortcut : Bindings → Place → Word → Type 0
 IsShortcut s p w = IsShortcutOf s (Made p) w
 
+-- each of them does
 abbrev pub AreShortcuts : Bindings → List (Place × Word) → Type 0
 AreShortcuts s [] = Unit {0}
 AreShortcuts s (e ∷ es) = IsShortcut s e.0 e.1 × AreShortcuts s es

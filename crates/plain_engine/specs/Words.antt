@@ -11,6 +11,7 @@ use Rattle.plain_engine.specs.declared.word.Word.TheVariants.{Text, Var, ReadOnl
 use Rattle.plain_engine.specs.declared.word.Binding.{Binding}
 use Rattle.plain_engine.specs.declared.trail.Trail.{Trail}
 
+-- a variable of the engine as one of the definitions
 abbrev pub variable_of : word_variable.Variable → Variable
 variable_of (Made p) = made p
 variable_of (Own k) = own k
@@ -20,6 +21,7 @@ abbrev pub is_place : Variable → Bool
 is_place (made p) = true
 is_place (own k) = false
 
+-- the term that a word stands for
 abbrev pub term_of_word : Word → Term Variable
 term_of_word (Text s) = string s.0
 term_of_word (Var v) = var (variable_of v)
