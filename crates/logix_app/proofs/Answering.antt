@@ -1,5 +1,5 @@
 -- The answers of a call, and what is written of them.
-use Rattle.std.proofs.Common.{◌≡◌, ℕ, ◌<◌, ◌≤◌, Bool, true, false, List, [], ◌∷◌, length, Option, Some, None, ap, sym, ◌∙◌, subst, refl, arith}
+use Rattle.std.proofs.Common.{◌≡◌, ℕ, ◌<◌, true, false, List, [], ◌∷◌, length, Option, Some, ap, sym, ◌∙◌, subst, refl, arith}
 use Rattle.std.specs.Prelude.{IsSomeAnd, codes}
 use Rattle.logix_edge.specs.declared.sink.Put.TheVariants as put
 use Rattle.logix_edge.specs.Causes.{Rose}
@@ -7,22 +7,21 @@ use Rattle.logix_edge.specs.Shelves.{Entries, bytes_of, Told}
 use Rattle.logix_edge.specs.Sinks.{IsPut}
 use Rattle.fcp_model.specs.declared.fault.Fault.{Fault}
 use Rattle.fcp_model.specs.declared.source.Module.{Module}
-use Rattle.fcp_model.specs.declared.source.GoalText.{GoalText}
 use Rattle.fcp_model.specs.NameList.{reserved_names}
 use Rattle.fcp_model.specs.Spelling.{Bytes}
 use Rattle.fcp_loader.specs.Faults.{faults_of, goal_faults_of}
 use Rattle.fcp_loader.specs.Firsts.{first_of}
-use Rattle.fcp_reader.specs.Sources.{IsModule, IsGoal, IsModuleFault, IsGoalFault, names_behind_module}
+use Rattle.fcp_reader.specs.Sources.{IsGoal, IsGoalFault}
 use Rattle.fcp_reader.proofs.TextLaws.{one-module, one-goal, no-module-fault, no-goal-fault}
 use Rattle.logix_app.specs.declared.answer.Answer.{Answer}
 use Rattle.logix_app.specs.declared.answer.Answer.TheVariants as answer
 use Rattle.logix_app.specs.declared.status.Status.{Status}
 use Rattle.logix_app.specs.declared.status.Status.TheVariants as status
-use Rattle.logix_app.specs.Headline.{IsFetched, IsAsked, Answers, Writes, IsThere, HasRun, HasFile, IsRunOrNoMemory, IsShownOrNoMemory, HasModuleFault, HasGoalFault, IsNotInForm, IsTooLong, HasShown, Ran}
+use Rattle.logix_app.specs.Headline.{IsAsked, Answers, Writes, IsThere, HasRun, HasFile, IsRunOrNoMemory, IsShownOrNoMemory, HasModuleFault, HasGoalFault, IsNotInForm, IsTooLong, HasShown}
 use Rattle.logix_app.specs.Loading.{IsLoadedModule, IsFirstFault, in_text, in_module, AreLoaded, IsFirstGoalFaultFor, IsFirstGoalFault, is_runnable}
 use Rattle.logix_app.specs.Loading as loading
 use Rattle.logix_app.specs.Parts.{status_of, text_of, AnswersRun, AnswersShow, AnswersRequest}
-use Rattle.logix_app.specs.Requests.{Request, run, show, file_of, words_for, IsReading}
+use Rattle.logix_app.specs.Requests.{Request, run, show, file_of, IsReading}
 
 module _ (words : List Bytes) (held : Option Entries) (before now : ℕ) (last : Option Bytes) where
   -- the answer to a run

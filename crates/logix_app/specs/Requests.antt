@@ -1,5 +1,5 @@
 -- What the words of a call ask for.
-use Rattle.std.specs.Prelude.{◌≡◌, ◌==◌, Bool, true, false, not, ◌&&◌, nat_le, IsTrue, List, [], ◌∷◌, length, codes}
+use Rattle.std.specs.Prelude.{◌≡◌, ◌==◌, Bool, false, not, ◌&&◌, nat_le, IsTrue, List, [], ◌∷◌, length, codes}
 use Rattle.fcp_model.specs.Spelling.{Bytes}
 
 -- a FILE or a GOAL: not empty, at most 65,536 bytes, and no `-` in front

@@ -1,9 +1,9 @@
 -- Calls of procedures that a module has.
-use Rattle.std.proofs.Common.{◌≡◌, ℕ, zero, suc, ◌+◌, ◌<◌, Bool, true, false, cond, ◌||◌, ◌&&◌, not, List, [], ◌∷◌, length, Option, Some, None, refl, sym, ap, ◌∙◌, arith}
+use Rattle.std.proofs.Common.{◌≡◌, ℕ, ◌<◌, Bool, true, false, cond, ◌||◌, not, List, [], ◌∷◌, length, Option, Some, None, refl, ap, ◌∙◌, arith}
 use Rattle.std.proofs.Common.{subst}
-use Rattle.std.specs.Prelude.{nat_lt, position}
+use Rattle.std.specs.Prelude.{position}
 use Rattle.std.specs.List.{list_any, position_or_len}
-use Rattle.std.proofs.lemmas.Bool.{lt-ltb, ltb-true, and_parts}
+use Rattle.std.proofs.lemmas.Bool.{lt-ltb, and_parts}
 use Rattle.fcp_model.specs.declared.names.Sym.{Sym}
 use Rattle.fcp_model.specs.declared.term.Term.{Term}
 use Rattle.fcp_model.specs.declared.source.Call.{Call}

@@ -1,18 +1,17 @@
 -- What a commit makes of where the engine stands.
-use Rattle.std.proofs.Common.{◌≡◌, ℕ, zero, suc, ◌+◌, ◌-◌, ◌<◌, ◌≤◌, Bool, true, false, not, List, [], ◌∷◌, ◌++◌, length, map, Option, Some, None, refl, sym, ap, ◌∙◌, subst, append_assoc, append-nil, add-one, arith}
-use Rattle.std.specs.Prelude.{filter, option_map, codes, decimal, slice_get}
-use Rattle.fcp_model.specs.declared.run.Proc.{Proc}
+use Rattle.std.proofs.Common.{◌≡◌, ℕ, zero, suc, ◌+◌, ◌-◌, ◌≤◌, not, List, [], ◌∷◌, ◌++◌, length, map, Some, refl, sym, ap, ◌∙◌, subst, add-one, arith}
+use Rattle.std.specs.Prelude.{filter, codes, decimal, slice_get}
 use Rattle.fcp_model.specs.Heads.{heads_in}
 use Rattle.fcp_model.specs.Places.{Variable}
 use Rattle.fcp_model.specs.Terms.{Term, Bindings}
 use Rattle.fcp_model.specs.Programs.{Clause, Program, clauses_of, user}
 use Rattle.fcp_model.specs.States as run
-use Rattle.fcp_model.specs.Decisions.{commits, Decides, decide}
+use Rattle.fcp_model.specs.Decisions.{commits, Decides}
 use Rattle.fcp_model.specs.Cells.{clause_used, cells}
-use Rattle.fcp_model.specs.Events.{Event, event_of, settled, is_woken, made_ready, woken_by, children_of}
+use Rattle.fcp_model.specs.Events.{Event, event_of, settled, is_woken, made_ready, children_of}
 use Rattle.fcp_model.specs.OneWorker.{Stand, makes, after_event, begin, ruling}
 use Rattle.fcp_model.specs.Spelling.{Bytes, process_text}
-use Rattle.fcp_model.specs.LogText.{event_line, event_lines, bindings_text, woken_text}
+use Rattle.fcp_model.specs.LogText.{event_line, bindings_text, woken_text}
 use Rattle.fcp_model.specs.Translation.{program_of, start_of, clause_of}
 use Rattle.fcp_model.specs.WaitingProcesses.{waiting_of}
 use Rattle.fcp_model.proofs.Leading.{led_on}
@@ -24,8 +23,7 @@ use Rattle.plain_engine.specs.declared.engine.Task.{Task}
 use Rattle.plain_engine.specs.declared.engine.Engine.{Engine}
 use Rattle.plain_engine.specs.Words.{term_of_word, binds_of, bound_of}
 use Rattle.plain_engine.specs.Sound.{IsSound}
-use Rattle.plain_engine.specs.Deciding.{Settles}
-use Rattle.plain_engine.specs.Additions.{Gives, Adds, commit_line}
+use Rattle.plain_engine.specs.Additions.{Gives, commit_line}
 use Rattle.plain_engine.specs.Processes.{process_of, waiting_process}
 use Rattle.plain_engine.specs.Engines.{AreOldGoals, IsTask, IsReached, HasRoom, Commits}
 use Rattle.plain_engine.proofs.AddedTexts.{gives_map, gives_same}

@@ -1,6 +1,6 @@
 -- Constants and variables have no cells.
-use Rattle.std.proofs.Common.{◌≡◌, ℕ, zero, suc, ◌+◌, ◌*◌, Bool, true, false, ◌&&◌, List, [], ◌∷◌, length, map, refl, sym, ap, ◌∙◌, subst, arith}
-use Rattle.std.specs.Prelude.{ℤ, sum_by, nat_le}
+use Rattle.std.proofs.Common.{◌≡◌, ℕ, zero, suc, ◌+◌, ◌*◌, Bool, true, ◌&&◌, List, [], ◌∷◌, length, map, refl, sym, ap, ◌∙◌, subst, arith}
+use Rattle.std.specs.Prelude.{sum_by, nat_le}
 use Rattle.std.specs.List.{list_all, position_or_len}
 use Rattle.std.proofs.lemmas.List.{length-map}
 use Rattle.std.proofs.lemmas.List.Sums.{sum_by-cons}
@@ -17,7 +17,7 @@ use Rattle.fcp_model.specs.Programs.{true', user}
 use Rattle.fcp_model.specs.Cells.{term_cells, goal_cells, clause_cells}
 use Rattle.fcp_model.specs.Translation.{term_of, term_step, head_called, user_goal, goal_of, goals_of, clause_of}
 use Rattle.fcp_model.specs.FirstForm.{is_flat, flat_step, are_flat, is_plain_call, are_plain_items, is_empty, is_plain_clause}
-use Rattle.fcp_model.proofs.Folds.{Each, term_induction, fold-Int, fold-Str, fold-Nil, fold-Cons, fold-Tuple, fold-Var, fold-Ro}
+use Rattle.fcp_model.proofs.Folds.{term_induction, fold-Int, fold-Str, fold-Nil, fold-Cons, fold-Tuple, fold-Var, fold-Ro}
 
 module _ (vars : ℕ) where
   abbrev Free : source.Term → Type 0

@@ -1,5 +1,5 @@
 -- Bindings that are put into a store one after another.
-use Rattle.std.proofs.Common.{◌≡◌, ℕ, suc, ◌+◌, ◌<◌, List, [], ◌∷◌, ◌++◌, length, drop, get_or, None, refl, sym, ap, ◌∙◌, subst, add-one, drop-cons}
+use Rattle.std.proofs.Common.{◌≡◌, ℕ, suc, ◌+◌, ◌<◌, List, [], ◌∷◌, ◌++◌, length, drop, get_or, None, sym, ap, ◌∙◌, subst, add-one, drop-cons}
 use Rattle.fcp_model.specs.Terms.{Bindings, find, settle, rename}
 use Rattle.fcp_model.specs.Events.{settled}
 use Rattle.plain_engine.specs.declared.word.Binding.{Binding}

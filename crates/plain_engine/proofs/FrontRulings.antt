@@ -1,6 +1,6 @@
 -- The ruling on the front of the queue of an open run without controls.
-use Rattle.std.proofs.Common.{◌≡◌, ℕ, zero, suc, ◌+◌, ◌<◌, ◌≤◌, Bool, true, false, List, [], ◌∷◌, ◌++◌, length, Option, Some, None, refl, sym, ap, ◌∙◌, subst, arith}
-use Rattle.std.specs.Prelude.{option_map, nat_le, nat_lt, ◌||◌}
+use Rattle.std.proofs.Common.{◌≡◌, ℕ, ◌+◌, ◌<◌, ◌≤◌, Bool, true, false, List, [], ◌∷◌, ◌++◌, length, Some, refl, ap, ◌∙◌, arith}
+use Rattle.std.specs.Prelude.{option_map, nat_le, ◌||◌}
 use Rattle.std.proofs.lemmas.Bool.{lt-ltb, le-ltb}
 use Rattle.std.proofs.lemmas.Bool.Decides.{nat_tests}
 use Rattle.fcp_model.specs.declared.run.Limits.{Limits}
@@ -9,7 +9,7 @@ use Rattle.fcp_model.specs.Programs.{Program}
 use Rattle.fcp_model.specs.States.{Process, Mode, is_open, is_suspended}
 use Rattle.fcp_model.specs.Decisions.{Decision, decide}
 use Rattle.fcp_model.specs.Events.{Event, event_of}
-use Rattle.fcp_model.specs.OneWorker.{Stand, Ruling, ends, passes, makes, is_over, is_due, control_ruling, after_event, front_ruling, queue_ruling, ruling}
+use Rattle.fcp_model.specs.OneWorker.{Stand, ends, passes, makes, is_over, is_due, control_ruling, after_event, front_ruling, queue_ruling, ruling}
 
 -- an open run without controls
 pub record IsPlainStand (at : Stand) : Type 0 where

@@ -1,10 +1,10 @@
 -- Bindings of the clause's own variables wake nobody.
-use Rattle.std.proofs.Common.{◌≡◌, Bool, true, false, not, cond, List, [], ◌∷◌, map, Option, Some, None, refl, sym, ap, ◌∙◌}
-use Rattle.std.specs.Prelude.{filter, is_some, ◌||◌, if◌then◌else◌}
+use Rattle.std.proofs.Common.{◌≡◌, false, not, cond, List, [], ◌∷◌, None, refl, ap, ◌∙◌}
+use Rattle.std.specs.Prelude.{filter, is_some, ◌||◌}
 use Rattle.std.specs.List.{list_any}
 use Rattle.fcp_model.specs.declared.run.Place.{Place}
 use Rattle.fcp_model.specs.Places.{Variable, made, own}
-use Rattle.fcp_model.specs.Terms.{Bindings, find}
+use Rattle.fcp_model.specs.Terms.{find}
 use Rattle.fcp_model.specs.States as run
 use Rattle.fcp_model.specs.Events.{binds_one, is_woken}
 use Rattle.plain_engine.specs.declared.word.Binding.{Binding}

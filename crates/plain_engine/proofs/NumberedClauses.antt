@@ -1,5 +1,5 @@
 -- The clause by which a goal commits.
-use Rattle.std.proofs.Common.{◌≡◌, ℕ, ◌+◌, ◌-◌, ◌<◌, ◌≤◌, Bool, true, List, [], ◌∷◌, length, get_or, Option, Some, None, refl, sym, ap, ◌∙◌, arith}
+use Rattle.std.proofs.Common.{◌≡◌, ℕ, ◌-◌, ◌<◌, ◌≤◌, true, List, length, get_or, Some, arith}
 use Rattle.std.specs.Prelude.{slice_get, ◌&&◌, nat_le}
 use Rattle.std.proofs.lemmas.Bool.{and_parts}
 use Rattle.std.proofs.lemmas.Option.{slice_get-get_or}
@@ -8,7 +8,7 @@ use Rattle.fcp_model.specs.declared.source.Module.{Module}
 use Rattle.fcp_model.specs.Heads.{heads_in, positions_in}
 use Rattle.fcp_model.specs.Programs.{clauses_of}
 use Rattle.fcp_model.specs.Translation.{program_of, clause_of}
-use Rattle.fcp_model.specs.FirstForm.{are_called, bodies_called, are_flat, is_empty, are_plain_items, is_plain_clause}
+use Rattle.fcp_model.specs.FirstForm.{are_called, bodies_called, are_flat, is_empty, are_plain_items}
 use Rattle.plain_engine.specs.Plain.{IsPlainClause, ArePlainItems}
 use Rattle.plain_engine.proofs.Heads.{passes_at}
 use Rattle.plain_engine.proofs.Clauses.{called_at, position_within, length-clauses}

@@ -1,5 +1,5 @@
 -- Calls whose variables are places of the entries so far.
-use Rattle.std.proofs.Common.{◌≡◌, ℕ, zero, suc, ◌≤◌, ◌<◌, Bool, true, false, cond, ◌&&◌, List, [], ◌∷◌, ◌++◌, length, map, refl, sym, ap, ◌∙◌, subst, arith}
+use Rattle.std.proofs.Common.{◌≡◌, ℕ, zero, suc, ◌≤◌, ◌<◌, Bool, true, false, cond, ◌&&◌, List, [], ◌∷◌, ◌++◌, length, map, sym, subst, arith}
 use Rattle.std.specs.Prelude.{filter, not, nat_le}
 use Rattle.std.specs.List.{list_all, list_any, position_or_len}
 use Rattle.std.proofs.lemmas.Bool.{and_parts}
@@ -18,7 +18,7 @@ use Rattle.fcp_model.specs.Events.{made_ready}
 use Rattle.fcp_model.specs.WaitingProcesses.{with_process, is_older_process}
 use Rattle.fcp_model.specs.Ranks.{Mentions}
 use Rattle.fcp_model.specs.Translation.{term_of, term_step, head_called, user_goal, goal_of, goals_of}
-use Rattle.fcp_model.specs.FirstForm.{is_flat, flat_step, is_plain_call, are_plain_items, is_true, is_called, are_called}
+use Rattle.fcp_model.specs.FirstForm.{is_flat, flat_step, is_plain_call, is_true, is_called, are_called}
 use Rattle.fcp_model.proofs.Folds.{term_induction, fold-Int, fold-Str, fold-Nil, fold-Cons, fold-Tuple, fold-Var, fold-Ro}
 use Rattle.plain_engine.specs.Plain.{ArePlainItems}
 use Rattle.plain_engine.specs.Sound.{IsAmong}

@@ -1,11 +1,8 @@
 -- What one ruling on the front of the queue makes of where the engine stands.
-use Rattle.std.proofs.Common.{◌≡◌, ℕ, zero, suc, ◌+◌, ◌-◌, ◌<◌, ◌≤◌, Bool, true, false, not, List, [], ◌∷◌, ◌++◌, length, map, Option, Some, None, refl, sym, ap, ◌∙◌, subst, append_assoc, append-nil, arith}
-use Rattle.std.specs.Prelude.{filter, ◌*◌, option_map, codes, decimal, slice_get}
+use Rattle.std.proofs.Common.{◌≡◌, ℕ, suc, ◌+◌, ◌<◌, ◌≤◌, List, [], ◌∷◌, ◌++◌, length, map, Option, Some, None, refl, sym, ap, ◌∙◌, subst, append_assoc, append-nil, arith}
+use Rattle.std.specs.Prelude.{◌*◌, codes}
 use Rattle.std.proofs.lemmas.List.{map-append, length-map, length_push}
 use Rattle.fcp_model.specs.declared.run.Place.{Place}
-use Rattle.fcp_model.specs.declared.run.Limits.{Limits}
-use Rattle.fcp_model.specs.declared.run.Entry.{Entry}
-use Rattle.fcp_model.specs.declared.run.Entry.TheVariants.{Commit, Hang, Fail}
 use Rattle.fcp_model.specs.Heads.{heads_in}
 use Rattle.fcp_model.specs.Places.{Variable, places_among}
 use Rattle.fcp_model.specs.Terms.{Bindings}
@@ -13,16 +10,16 @@ use Rattle.fcp_model.specs.Programs.{Program}
 use Rattle.fcp_model.specs.States as run
 use Rattle.fcp_model.specs.Decisions.{Decision, commits, decides_fail, waits_on, Decides, decide}
 use Rattle.fcp_model.specs.Cells.{cells}
-use Rattle.fcp_model.specs.Events.{Event, event_of, is_woken, made_ready}
-use Rattle.fcp_model.specs.OneWorker.{Stand, Ruling, ends, passes, makes, after_event, begin, front_ruling, ruling, Leads, IsOneWorkerRun}
-use Rattle.fcp_model.specs.Spelling.{Bytes, process_text}
-use Rattle.fcp_model.specs.LogText.{event_line, event_lines, both_texts, entry_text, bindings_text, woken_text, places_text}
+use Rattle.fcp_model.specs.Events.{Event, event_of}
+use Rattle.fcp_model.specs.OneWorker.{Stand, passes, makes, after_event, begin, front_ruling, ruling}
+use Rattle.fcp_model.specs.Spelling.{Bytes}
+use Rattle.fcp_model.specs.LogText.{event_line, event_lines, both_texts}
 use Rattle.fcp_model.specs.Translation.{program_of, start_of, started_goals}
 use Rattle.fcp_model.specs.Stands.{NamesRise, IsSoundStand}
 use Rattle.fcp_model.specs.WaitingProcesses.{is_waiting, waiting_of, with_process}
-use Rattle.fcp_model.proofs.Leading.{led_on, taken}
+use Rattle.fcp_model.proofs.Leading.{led_on}
 use Rattle.fcp_model.proofs.SoundStands.{start_ordered, begin_sound, leads_sound, front_is_ready}
-use Rattle.fcp_model.proofs.WaitingProcesses.{waiting_after_commit, woken_among_waiting, waiting_after_hang}
+use Rattle.fcp_model.proofs.WaitingProcesses.{waiting_after_hang}
 use Rattle.plain_engine.specs.declared.process.Process.{Process}
 use Rattle.plain_engine.specs.declared.engine.Task.{Task}
 use Rattle.plain_engine.specs.declared.engine.Engine.{Engine}
@@ -30,9 +27,9 @@ use Rattle.plain_engine.specs.Words.{bound_of}
 use Rattle.plain_engine.specs.Sound.{AreAmong, IsSound}
 use Rattle.plain_engine.specs.Additions.{Gives, Adds, hang_line, fail_line}
 use Rattle.plain_engine.specs.Processes.{process_of, waiting_process}
-use Rattle.plain_engine.specs.Engines.{AreOldGoals, IsOldGoal, StandsAt, IsReached, HasRoom, HasFailed, Passes, Hangs, Fails}
-use Rattle.plain_engine.proofs.AddedTexts.{gives_known, gives_map, gives_same, adds_both}
-use Rattle.plain_engine.proofs.FrontRulings.{IsPlainStand, by_queue, front_ruled, front_passes, front_makes}
+use Rattle.plain_engine.specs.Engines.{AreOldGoals, IsOldGoal, IsReached, HasRoom, HasFailed, Passes, Hangs, Fails}
+use Rattle.plain_engine.proofs.AddedTexts.{gives_known, adds_both}
+use Rattle.plain_engine.proofs.FrontRulings.{IsPlainStand, front_ruled, front_passes, front_makes}
 use Rattle.plain_engine.proofs.Sounds.{are_among_more}
 use Rattle.plain_engine.proofs.OldGoals.{AreOldGoals-more, AreOldGoals-append, AreOldGoals-with}
 use Rattle.plain_engine.proofs.WaitingOrder.{rise_filter}

@@ -1,21 +1,18 @@
 -- The parts of one ruling, as the code has them.
-use Rattle.std.proofs.Common.{◌≡◌, ℕ, zero, suc, ◌+◌, ◌*◌, ◌-◌, ◌<◌, ◌≤◌, Bool, true, false, List, [], ◌∷◌, ◌++◌, length, map, Option, Some, None, refl, sym, ap, ◌∙◌, subst, arith}
+use Rattle.std.proofs.Common.{◌≡◌, ℕ, zero, suc, ◌+◌, ◌-◌, ◌<◌, ◌≤◌, Bool, true, false, List, [], length, Some, sym, ap, ◌∙◌, arith}
 use Rattle.std.specs.Prelude.{nat_lt, slice_get}
 use Rattle.std.proofs.lemmas.Bool.{ltb-true}
 use Rattle.std.proofs.lemmas.Bool.Decides.{nat_tests}
 use Rattle.std.proofs.lemmas.Option.{slice_get_within}
 use Rattle.std.proofs.lemmas.List.{length_push}
-use Rattle.fcp_model.specs.Heads.{heads_in}
 use Rattle.fcp_model.specs.Places.{Variable}
 use Rattle.fcp_model.specs.Terms.{Term, Bindings}
 use Rattle.fcp_model.specs.Programs.{Clause, Program, clauses_of, user}
-use Rattle.fcp_model.specs.Decisions.{commits, waits_on, Decision}
+use Rattle.fcp_model.specs.Decisions.{commits}
 use Rattle.fcp_model.specs.Cells.{clause_used, commit_cells, clause_cells, cells}
-use Rattle.fcp_model.specs.Translation.{program_of, clause_of}
 use Rattle.plain_engine.specs.declared.process.Process.{Process}
 use Rattle.plain_engine.specs.declared.engine.Task.{Task}
 use Rattle.plain_engine.specs.declared.engine.Engine.{Engine}
-use Rattle.plain_engine.specs.Processes.{process_of}
 use Rattle.plain_engine.specs.Engines.{IsReached, HasRoom, Passes}
 use Rattle.plain_engine.proofs.Committing.{used_clause}
 

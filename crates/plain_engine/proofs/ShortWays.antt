@@ -1,22 +1,21 @@
 -- Shortcuts stay, and those of a further binding.
-use Rattle.std.proofs.Common.{◌≡◌, ℕ, zero, suc, ◌≤◌, ◌<◌, Bool, true, false, cond, ◌&&◌, List, [], ◌∷◌, ◌++◌, Option, Some, None, refl, sym, ap, ◌∙◌, subst, append_assoc, arith}
+use Rattle.std.proofs.Common.{◌≡◌, Bool, true, false, cond, List, [], ◌∷◌, ◌++◌, Some, None, refl, sym, ap, ◌∙◌, subst, append_assoc, arith}
 use Rattle.std.proofs.lemmas.List.{map-append}
-use Rattle.std.specs.Prelude.{Result, Ok, Err, OnOk, OnErr, IfSome, if◌then◌else◌, nat_eq}
+use Rattle.std.specs.Prelude.{Result, Ok, Err, OnOk, OnErr, IfSome, if◌then◌else◌}
 use Rattle.std.specs.Map.{lookup}
-use Rattle.std.proofs.lemmas.Bool.{and_parts}
 use Rattle.std.proofs.lemmas.Bool.Decides.{nat_tests}
 use Rattle.indexmap.specs.IndexMap.{insert_entry}
 use Rattle.fcp_model.specs.declared.run.Place.{Place}
-use Rattle.fcp_model.specs.Places.{made, is_same_place, is_same}
-use Rattle.fcp_model.specs.Terms.{Term, Bindings, find}
-use Rattle.fcp_model.specs.Value.{Look, Values}
+use Rattle.fcp_model.specs.Places.{made, is_same_place}
+use Rattle.fcp_model.specs.Terms.{Bindings, find}
+use Rattle.fcp_model.specs.Value.{Values}
 use Rattle.fcp_model.specs.Ranks.{Ranked}
 use Rattle.fcp_model.proofs.Finding.{is_same_place-true, find-append, found_or}
 use Rattle.plain_engine.specs.declared.word.Variable.TheVariants.{Made}
 use Rattle.plain_engine.specs.declared.word.Word.{Word}
 use Rattle.plain_engine.specs.declared.word.Word.TheVariants.{Text, Var, ReadOnly}
 use Rattle.plain_engine.specs.Words.{term_of_word, bound_of}
-use Rattle.plain_engine.specs.Values.{marked, steps_left, LeadsTo}
+use Rattle.plain_engine.specs.Values.{marked, LeadsTo}
 use Rattle.plain_engine.specs.Shortcuts.{IsNearer, IsNoFarther, IsShortcut, AreShortcuts}
 use Rattle.plain_engine.proofs.Follow.{var_on, ro_on, left_marked}
 

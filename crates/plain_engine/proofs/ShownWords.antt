@@ -1,15 +1,14 @@
 -- The text of a value.
-use Rattle.std.proofs.Common.{◌≡◌, ℕ, zero, suc, ◌+◌, ◌<◌, ◌≤◌, List, [], ◌∷◌, ◌++◌, Option, Some, None, refl, sym, ap, ◌∙◌, subst, append-nil, arith}
+use Rattle.std.proofs.Common.{◌≡◌, ℕ, zero, suc, ◌≤◌, List, [], ◌++◌, Option, Some, None, refl, ap, ◌∙◌, subst, append-nil, arith}
 use Rattle.std.specs.Prelude.{Result, Ok, Err, OnOk, option_map}
 use Rattle.fcp_model.specs.Places.{Variable}
 use Rattle.fcp_model.specs.Terms.{Term, Bindings}
 use Rattle.fcp_model.specs.Value.{Look, value, Values}
 use Rattle.fcp_model.specs.Spelling.{Bytes}
-use Rattle.fcp_model.specs.TermText.{Written, leaf_text, look_text, term_text, cut_text}
+use Rattle.fcp_model.specs.TermText.{Written, leaf_text, look_text, cut_text}
 use Rattle.fcp_model.proofs.MoreSteps.{at_least, value_more}
 use Rattle.plain_engine.specs.declared.word.Word.{Word}
 use Rattle.plain_engine.specs.declared.word.Word.TheVariants.{Text, Var, ReadOnly}
-use Rattle.plain_engine.specs.Words.{term_of_word}
 use Rattle.plain_engine.specs.Values.{look_of}
 use Rattle.plain_engine.specs.Additions.{Adds, word_text}
 

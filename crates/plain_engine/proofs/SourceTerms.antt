@@ -1,5 +1,5 @@
 -- Source terms of strings and variables, as the definitions have them.
-use Rattle.std.proofs.Common.{◌≡◌, ℕ, List, refl, sym, ap, ◌∙◌}
+use Rattle.std.proofs.Common.{◌≡◌, ℕ, sym, ap, ◌∙◌}
 use Rattle.fcp_model.specs.declared.names.Sym.{Sym}
 use Rattle.fcp_model.specs.declared.term.Term as source
 use Rattle.fcp_model.specs.Places.{Variable, placed}

@@ -1,27 +1,26 @@
 -- What the engine keeps: it stands where the run of one worker stands.
-use Rattle.std.specs.Prelude.{◌≡◌, ℕ, suc, ◌+◌, ◌≤◌, ◌<◌, Bool, true, not, List, [], ◌∷◌, ◌++◌, map, filter, length, ◌-◌, slice_get, Some, codes}
+use Rattle.std.specs.Prelude.{◌≡◌, ℕ, suc, ◌+◌, ◌≤◌, ◌<◌, true, not, List, [], ◌∷◌, ◌++◌, map, filter, length, ◌-◌, slice_get, Some, codes}
 use Rattle.fcp_model.specs.declared.run.Place.{Place}
 use Rattle.fcp_model.specs.declared.source.Clause as read
 use Rattle.fcp_model.specs.Heads.{heads_in}
-use Rattle.fcp_model.specs.Places.{Variable, placed}
-use Rattle.fcp_model.specs.Terms.{Term, Bindings}
-use Rattle.fcp_model.specs.Programs.{Goal, user, true', unifies, assigns, Program, clauses_of}
+use Rattle.fcp_model.specs.Places.{Variable}
+use Rattle.fcp_model.specs.Terms.{Term}
+use Rattle.fcp_model.specs.Programs.{Goal, user, true', unifies, assigns, clauses_of}
 use Rattle.fcp_model.specs.States as run
 use Rattle.fcp_model.specs.Events.{Event, settled, is_woken, made_ready, children_of}
 use Rattle.fcp_model.specs.OneWorker.{Stand, Leads, IsOneWorkerRun, ruling, begin, ends}
 use Rattle.fcp_model.specs.WaitingProcesses.{waiting_of, with_process}
 use Rattle.fcp_model.specs.LogText.{event_lines}
 use Rattle.fcp_model.specs.Ranks.{Mentions}
-use Rattle.fcp_model.specs.Spelling.{Bytes}
 use Rattle.fcp_model.specs.Translation.{program_of, start_of, clause_of}
-use Rattle.fcp_model.specs.FirstForm.{is_plain_goal, bodies_called, goal_called}
+use Rattle.fcp_model.specs.FirstForm.{bodies_called, goal_called}
 use Rattle.plain_engine.specs.declared.word.Binding.{Binding}
 use Rattle.plain_engine.specs.declared.process.Process.{Process}
 use Rattle.plain_engine.specs.declared.engine.Task.{Task}
 use Rattle.plain_engine.specs.declared.engine.Engine.{Engine}
 use Rattle.plain_engine.specs.declared.engine.Ruled.{Ruled}
 use Rattle.plain_engine.specs.declared.engine.Ruled.TheVariants as ruled
-use Rattle.plain_engine.specs.Words.{term_of_word, binds_of, bound_of}
+use Rattle.plain_engine.specs.Words.{binds_of, bound_of}
 use Rattle.plain_engine.specs.Plain.{IsPlain, IsPlainGoal}
 use Rattle.plain_engine.specs.Sound.{IsAmong, IsSound, AreFresh}
 use Rattle.plain_engine.specs.Additions.{Adds, AddsCommit, hang_line, fail_line}

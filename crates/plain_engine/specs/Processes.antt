@@ -1,5 +1,4 @@
 -- What the processes of the engine stand for.
-use Rattle.std.specs.Prelude.{ℕ, List, [], ◌∷◌, map}
 use Rattle.fcp_model.specs.declared.run.Proc.{Proc}
 use Rattle.fcp_model.specs.Places.{Variable}
 use Rattle.fcp_model.specs.Programs.{Goal}

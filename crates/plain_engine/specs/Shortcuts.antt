@@ -1,5 +1,5 @@
 -- Shortcuts on the way from a bound variable to its value.
-use Rattle.std.specs.Prelude.{ℕ, ◌≤◌, List, [], ◌∷◌, ◌++◌}
+use Rattle.std.specs.Prelude.{◌≤◌, List, [], ◌∷◌, ◌++◌}
 use Rattle.fcp_model.specs.declared.run.Place.{Place}
 use Rattle.fcp_model.specs.Terms.{Bindings}
 use Rattle.fcp_model.specs.Value.{Look, Values}

@@ -1,5 +1,5 @@
-ghost use Rattle.std.specs.Prelude.{◌≡◌, ◌≤◌, ◌<◌, ◌+◌, ◌++◌, true, length, map, IfOk, OnOk};
-ghost use Rattle.fcp_model.specs.Places.{placed, proc};
+ghost use Rattle.std.specs.Prelude.{◌≡◌, ◌++◌, true, map, IfOk, OnOk};
+ghost use Rattle.fcp_model.specs.Places.{placed};
 ghost use Rattle.fcp_model.specs.Terms.{rename};
 ghost use Rattle.fcp_model.specs.Translation.{term_of, goal_of, goals_of};
 ghost use Rattle.fcp_model.specs.Programs.{rename_goal};

@@ -1,4 +1,4 @@
-ghost use Rattle.std.specs.Prelude.{ℕ, ◌≡◌, ◌<◌, ◌≤◌, ◌-◌, ◌≤◌, Some, length, slice_get, map, insert, MatchOption, IfOk, OnOk, All};
+ghost use Rattle.std.specs.Prelude.{ℕ, ◌≡◌, ◌<◌, ◌≤◌, ◌-◌, Some, length, slice_get, map, insert, MatchOption, IfOk, OnOk, All};
 ghost use Rattle.fcp_model.specs.Heads.{heads_in};
 ghost use Rattle.fcp_model.specs.Places.{inserted, places_among};
 ghost use Rattle.fcp_model.specs.Translation.{program_of, clause_of};

@@ -1,4 +1,4 @@
-ghost use Rattle.std.specs.Prelude.{◌≡◌, ◌+◌, ◌*◌, ◌≤◌, ◌<◌, ◌||◌, ℕ, suc, nat_le, nat_lt, List, [], ◌∷◌, length, map, IfOk, OnOk, IfSome, IfNone};
+ghost use Rattle.std.specs.Prelude.{◌≡◌, ◌+◌, ◌*◌, ◌≤◌, ◌<◌, ◌||◌, suc, nat_le, nat_lt, List, [], ◌∷◌, length, map, IfOk, OnOk, IfSome, IfNone};
 ghost use Rattle.fcp_model.specs.Heads.{heads_in};
 ghost use Rattle.fcp_model.specs.Places.{Variable, places_among};
 ghost use Rattle.fcp_model.specs.Decisions.{commits, waits_on, Decides};

@@ -20,11 +20,9 @@ mod value;
 mod wakes;
 mod word;
 
-pub use decision::{Decision, decide};
-pub use pairing::Unified;
-pub use process::{Process, Waiting};
+pub(crate) use process::{Process, Waiting};
 pub use report::Report;
 pub use run::run_goal;
-pub use store::Store;
-pub use trail::Trail;
-pub use word::{Binding, Variable, Word};
+pub(crate) use store::Store;
+pub(crate) use trail::Trail;
+pub(crate) use word::{Binding, Variable, Word};

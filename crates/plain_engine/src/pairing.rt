@@ -1,4 +1,4 @@
-ghost use Rattle.std.specs.Prelude.{ℕ, ◌≡◌, ◌++◌, [], IfOk, OnOk};
+ghost use Rattle.std.specs.Prelude.{ℕ, ◌≡◌, ◌++◌, IfOk, OnOk};
 ghost use Rattle.fcp_model.specs.Ranks.{Ranked};
 ghost use Rattle.plain_engine.specs.Words.{term_of_word, bound_of, bound_by, read_by};
 ghost use Rattle.plain_engine.specs.Sound.{IsTrial, IsWordAmong, IsOld};

@@ -2,7 +2,6 @@ ghost use Rattle.std.specs.Prelude.{◌≡◌, [], ◌∷◌, ◌++◌, None, On
 ghost use Rattle.fcp_model.specs.Places.{made};
 ghost use Rattle.fcp_model.specs.Terms.{find};
 ghost use Rattle.plain_engine.specs.Words.{term_of_word, bound_of};
-ghost use Rattle.plain_engine.specs.Values.{marked};
 ghost use Rattle.plain_engine.specs.Shortcuts.{IsShortcut, IsNoFarther};
 
 use crate::{Variable, Word};

@@ -1,4 +1,4 @@
-ghost use Rattle.std.specs.Prelude.{ℕ, ◌≡◌, ◌≤◌, max, [], IfOk, OnOk, All};
+ghost use Rattle.std.specs.Prelude.{ℕ, ◌≡◌, [], IfOk, OnOk, All};
 ghost use Rattle.plain_engine.specs.Words.{bound_of, bound_by};
 ghost use Rattle.plain_engine.specs.Sound.{IsSound, IsTrial, IsOld};
 ghost use Rattle.plain_engine.specs.Pairing.{met_after, HeadEnds};

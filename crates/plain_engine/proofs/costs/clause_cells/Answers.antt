@@ -1,4 +1,3 @@
-use Rattle.std.proofs.Common.{ap, ◌∙◌}
 use Rattle.plain_engine.proofs.FlatTerms.{plain_clause_cells}
 use Rattle.plain_engine.proofs.costs.clause_cells.Goals as goal
 

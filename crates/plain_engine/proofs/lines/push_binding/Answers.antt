@@ -1,4 +1,3 @@
-use Rattle.std.proofs.Common.{sym}
 use Rattle.plain_engine.proofs.AddedTexts.{binding_added}
 use Rattle.plain_engine.proofs.lines.push_binding.Goals as goal
 

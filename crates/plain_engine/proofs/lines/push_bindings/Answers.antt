@@ -1,4 +1,4 @@
-use Rattle.std.proofs.Common.{take, subst, refl, ap}
+use Rattle.std.proofs.Common.{subst, refl}
 use Rattle.std.proofs.lemmas.List.{take_all}
 use Rattle.fcp_model.specs.LogText.{bindings_text}
 use Rattle.plain_engine.specs.Words.{binds_of, bound_of}

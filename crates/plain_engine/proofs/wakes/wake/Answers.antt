@@ -1,4 +1,4 @@
-use Rattle.std.proofs.Common.{◌≡◌, ◌++◌, map, sym, ap, ◌∙◌, append-nil}
+use Rattle.std.proofs.Common.{◌++◌, map, sym, ap, ◌∙◌, append-nil}
 use Rattle.fcp_model.specs.Events.{made_ready}
 use Rattle.plain_engine.specs.Processes.{process_of, waiting_process}
 use Rattle.plain_engine.proofs.NoWaking.{none_woken, all_asleep}

@@ -1,6 +1,5 @@
-use Rattle.std.proofs.Common.{◌≡◌, All, length, [], ◌∷◌, sym, ap, ◌∙◌, refl, subst}
+use Rattle.std.proofs.Common.{All, [], ◌∷◌, sym, ◌∙◌, refl, subst}
 use Rattle.fcp_model.specs.Translation.{program_of, start_of}
-use Rattle.plain_engine.specs.declared.engine.Engine.{Engine}
 use Rattle.plain_engine.specs.Words.{binds_of, bound_of}
 use Rattle.plain_engine.specs.Sound.{IsOld}
 use Rattle.plain_engine.specs.Deciding.{goal_with, Settles, DecidesAs, KeepsSound}

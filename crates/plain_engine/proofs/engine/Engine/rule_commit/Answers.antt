@@ -1,7 +1,6 @@
-use Rattle.std.proofs.Common.{◌≡◌, ◌≤◌, ◌<◌, ◌+◌, ◌∙◌, sym, ap, arith, map, length, Some, slice_get}
+use Rattle.std.proofs.Common.{arith, map}
 use Rattle.fcp_model.specs.Heads.{heads_in}
 use Rattle.fcp_model.specs.Translation.{program_of, clause_of}
-use Rattle.fcp_model.specs.Decisions.{commits}
 use Rattle.plain_engine.specs.Words.{term_of_word, binds_of}
 use Rattle.plain_engine.proofs.Clauses.{plain_at}
 use Rattle.plain_engine.proofs.Reaching.{pass_reached}

@@ -1,4 +1,4 @@
-use Rattle.std.proofs.Common.{◌≡◌, ◌≤◌, ◌<◌, ◌+◌, ◌*◌, ◌∙◌, sym, ap, arith, length}
+use Rattle.std.proofs.Common.{◌≡◌, ◌<◌, ◌+◌, ◌*◌, ◌∙◌, ap, arith, length}
 use Rattle.fcp_model.specs.Places.{places_among}
 use Rattle.fcp_model.specs.Decisions.{waits_on}
 use Rattle.plain_engine.proofs.Reaching.{waiting_rise, pass_reached, hang_reached}

@@ -3,7 +3,7 @@ use Rattle.fcp_model.specs.Places.{made, is_same_place}
 use Rattle.fcp_model.specs.Terms.{find}
 use Rattle.indexmap.proofs.CallerLemmas.{insert_entry-new}
 use Rattle.plain_engine.specs.Words.{bound_of}
-use Rattle.plain_engine.specs.Shortcuts.{AreShortcuts, IsNoFarther}
+use Rattle.plain_engine.specs.Shortcuts.{IsNoFarther}
 use Rattle.plain_engine.proofs.Found.{lookup_none}
 use Rattle.plain_engine.proofs.ShortWays.{bound_more}
 use Rattle.plain_engine.proofs.store.Store.bind.Goals as goal

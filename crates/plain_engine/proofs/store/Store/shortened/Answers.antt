@@ -2,7 +2,6 @@ use Rattle.std.proofs.Common.{◌≡◌, ◌∙◌, ap, sym, subst}
 use Rattle.plain_engine.specs.declared.word.Variable.TheVariants.{Made}
 use Rattle.plain_engine.specs.declared.word.Word.TheVariants.{Var, ReadOnly}
 use Rattle.plain_engine.specs.Words.{bound_of}
-use Rattle.plain_engine.specs.Values.{marked}
 use Rattle.plain_engine.specs.Shortcuts.{IsNoFarther}
 use Rattle.plain_engine.proofs.ShortWays.{var_nearer, ro_nearer}
 use Rattle.plain_engine.proofs.store.Store.shortened.Goals as goal
