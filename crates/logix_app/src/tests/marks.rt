@@ -205,7 +205,10 @@ fn mod_is_a_string_and_an_operator(rt: HostRuntime) -> Result<(), Fail> {
 #[test]
 fn signs_have_two_sides(rt: HostRuntime) -> Result<(), Fail> {
     let rows = [
-        (b"p:-X==.".as_slice(), b"logix: module fault 5 at 6\n".as_slice()),
+        (
+            b"p:-X==.".as_slice(),
+            b"logix: module fault 5 at 6\n".as_slice(),
+        ),
         (b"p:-==X.", b"logix: module fault 5 at 3\n"),
         (b"p:-X\\==.", b"logix: module fault 5 at 7\n"),
         (b"p:-\\==X.", b"logix: module fault 5 at 3\n"),
