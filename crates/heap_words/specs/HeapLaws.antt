@@ -1,0 +1,51 @@
+-- The laws of words, for a plain heap.
+use Rattle.std.specs.Prelude.{◌≡◌, ℕ, ◌-◌, ◌%◌, ◌<◌, ◌≤◌, ◌||◌, true, List, Some, None, refl, length, slice_get, nat_eq, nat_lt}
+use Rattle.std.proofs.Common.{sym, ◌∙◌, ap, subst, arith, cond}
+use Rattle.std.proofs.lemmas.Bool.{and_parts, ltb-true}
+use Rattle.heap_words.specs.Cells.{decoded}
+use Rattle.heap_words.specs.Refers.{Refers, teller}
+use Rattle.heap_words.specs.Loading.{WordsLaws, tells_all}
+use Rattle.heap_words.specs.Heaps.{IsHeap, RefersInside, is_inside, inside_at, final_at, top_at}
+use Rattle.heap_words.specs.declared.cell.Cell.{Cell}
+use Rattle.heap_words.specs.declared.heap.PlainHeap.{PlainHeap}
+
+-- an address inside is one of the heap's
+pub inside_below : (ws : List ℕ) (a : ℕ) → is_inside ws a ≡ true → a < length ws
+unfolding is_inside
+inside_below ws a h = ltb-true a (length ws) (and_parts (nat_lt a (length ws)) (nat_eq (a % 1024) 0 || nat_lt a (top_at ws (a - a % 1024))) h).0
+
+-- the word at an address inside
+pub inside_is : (ws : List ℕ) (a x : ℕ) → is_inside ws a ≡ true → slice_get ws a ≡ Some x → inside_at ws a ≡ Some x
+inside_is ws a x h e = ap (λ t. cond t (slice_get ws a) None) h ∙ e
+
+-- a word that refers by itself to addresses inside, and to no more
+pub plain_inside : (ws : List ℕ) (x : ℕ) (c : Cell) → decoded x ≡ Some c → tells_all c → ((b : ℕ) → Refers c b → is_inside ws b ≡ true) → RefersInside ws x
+plain_inside ws x c d t f = record {
+  refers = λ b e g r. f b (subst (λ (z : Cell). Refers z b) (let h : e ≡ c = cc in h) r);
+  refers_by = λ k y n b e g tells _ _ _. absurd (let h : c ≡ e = cc in let i : None ≡ Some k = sym t ∙ (ap teller h ∙ tells) in cc);
+}
+
+pub heap_laws : WordsLaws {S = PlainHeap} (λ h. length h.words.items) (λ h. IsHeap h.words.items) (λ h a. is_inside h.words.items a ≡ true)
+    (λ h a x. inside_at h.words.items a ≡ Some x) (λ h x. RefersInside h.words.items x) (λ h a. None) (λ h. final_at h.words.items)
+    (λ g h. g.words.items ≡ h.words.items) (λ g h a x. (g.words.items ≡ h.words.items) × (inside_at h.words.items a ≡ Some x))
+heap_laws = record {
+  still = λ w s. refl;
+  twice = λ u v w a b. a ∙ b;
+  stays_sound = λ v w s l. subst (λ (ws : List ℕ). IsHeap ws) l s;
+  stays_known = λ v w a l k. subst (λ (ws : List ℕ). is_inside ws a ≡ true) l k;
+  stays_had = λ v w a x l h. subst (λ (ws : List ℕ). inside_at ws a ≡ Some x) l h;
+  stays_leading = λ v w x l h. subst (λ (ws : List ℕ). RefersInside ws x) l h;
+  stays_shown = λ v w a x l h. subst (λ (ws : List ℕ). final_at ws a ≡ Some x) l h;
+  same_own = λ v w a l. refl;
+  fixed = λ v w l. ap length (sym l);
+  gave_after = λ u v w a x l g. (l ∙ g.0, g.1);
+  gave_before = λ u v w a x g l. (g.0 ∙ l, subst (λ (ws : List ℕ). inside_at ws a ≡ Some x) l g.1);
+  had_given = λ v w a x g. g.1;
+  in_range = λ w a s k. inside_below w.words.items a k;
+  few = λ w s. let h : length w.words.items ≤ 4000000000 = s.small in omega arith;
+  had_leads = λ w a x s h. s.inside a x h;
+  reaches = λ w x b c s l d r. l.refers b c d r;
+  reaches_by = λ w x t y n b c s l d k h e r. l.refers_by t y n b c d k h e r;
+  plain = λ w x c s d t f. plain_inside w.words.items x c d t f;
+  no_cycle = λ w s. s.no_cycle;
+}

@@ -1,0 +1,14 @@
+//! Words of the store: cells, what generic code asks of words that it loads, the trail of a try, and a plain heap.
+#![tactic(auto)]
+
+mod cell;
+mod heap;
+#[cfg(test)]
+mod tests;
+mod trail;
+mod words;
+
+pub use cell::{Cell, Stand, decode, encode, is_final};
+pub use heap::PlainHeap;
+pub use trail::Trail;
+pub use words::Words;

@@ -1,0 +1,162 @@
+//! The trail of a try: what it bound privately, what it read unbound, and the words that it loaded.
+ghost use Rattle.std.specs.Prelude.{◌≡◌, ◌++◌, [], ◌∷◌, ◌≤◌, None, IfOk, OnOk, slice_get, option_map};
+ghost use Rattle.heap_words.specs.Trails.{word_at, under, Holds, Loaded, Says};
+
+use crate::words::Words;
+use fcp_model::NoMemory;
+use indexmap::IndexMap;
+use std::alloc::Global;
+
+/// What a try did so far. Contracts see three lists: the private bindings and the kept words, each an address with a word, and
+/// the places read.
+#[derive(Drop)]
+pub struct Trail {
+    binds: IndexMap<u32, u64>,
+    reads: Vec<u32>,
+    kept: IndexMap<u32, u64>,
+}
+
+/// Addresses from here on are those of a try's own pieces.
+const OWN: u32 = 4_000_000_000;
+
+impl Trail {
+    /// A trail with nothing on it.
+    pub fn make(alloc: Global) -> Result<Trail, NoMemory>
+        ensures binds { IfOk result (λ t. t.binds.entries ≡ []) }
+        ensures reads { IfOk result (λ t. t.reads.items ≡ []) }
+        ensures kept { IfOk result (λ t. t.kept.entries ≡ []) }
+    {
+        Ok(Trail {
+            binds: IndexMap::new(alloc),
+            reads: Vec::new(alloc),
+            kept: IndexMap::new(alloc),
+        })
+    }
+
+    /// Keeps a loaded word.
+    fn keep(&mut self, addr: u32, word: u64) -> Result<(), NoMemory>
+        requires { word_at self.old.kept.entries addr ≡ None }
+        ensures kept { OnOk result (self.new.kept.entries ≡ self.old.kept.entries ++ (addr, word) ∷ []) }
+        ensures binds { self.new.binds.entries ≡ self.old.binds.entries }
+        ensures reads { self.new.reads.items ≡ self.old.reads.items }
+    {
+        match self.kept.insert(addr, word) {
+            Ok(_) => Ok(()),
+            Err(_) => Err(NoMemory),
+        }
+    }
+
+    /// The word at a known address, with no look at private bindings. It is kept from now on, where it is none of the
+    /// try's own pieces.
+    pub fn word<W: Words>(&mut self, words: &mut W, addr: u32) -> Result<u64, NoMemory>
+        requires sound { W.sound words.old }
+        requires known { W.knows words.old addr }
+        requires holds { Holds W.had W.leads self.old.kept.entries self.old.binds.entries words.old }
+        ensures between { W.later words.old words.new }
+        ensures binds { self.new.binds.entries ≡ self.old.binds.entries }
+        ensures reads { self.new.reads.items ≡ self.old.reads.items }
+        ensures loaded { OnOk result (Loaded W.sound W.had W.leads W.later W.gave self.old.kept.entries self.old.binds.entries words.old self.new.kept.entries self.new.binds.entries words.new) }
+        ensures word { IfOk result (λ x. Says (W.own words.new) self.new.kept.entries (λ m. m addr ≡ x)) }
+        ensures had { IfOk result (λ x. W.had words.new addr x) }
+    {
+        if let Some(word) = self.kept.get(&addr) {
+            return Ok(*word);
+        }
+        let word = words.load(addr);
+        if addr < OWN {
+            self.keep(addr, word)?;
+        }
+        Ok(word)
+    }
+
+    /// The word that an address is privately bound to.
+    pub fn bound(&self, addr: u32) -> Option<u64>
+        ensures { result ≡ word_at self.now.binds.entries addr }
+    {
+        self.binds.get(&addr).copied()
+    }
+
+    /// The word at an address under the private bindings; where it is not bound, as `word` gives it.
+    pub fn look<W: Words>(&mut self, words: &mut W, addr: u32) -> Result<u64, NoMemory>
+        requires sound { W.sound words.old }
+        requires known { word_at self.old.binds.entries addr ≡ None → W.knows words.old addr }
+        requires holds { Holds W.had W.leads self.old.kept.entries self.old.binds.entries words.old }
+        ensures between { W.later words.old words.new }
+        ensures binds { self.new.binds.entries ≡ self.old.binds.entries }
+        ensures reads { self.new.reads.items ≡ self.old.reads.items }
+        ensures loaded { OnOk result (Loaded W.sound W.had W.leads W.later W.gave self.old.kept.entries self.old.binds.entries words.old self.new.kept.entries self.new.binds.entries words.new) }
+        ensures word { IfOk result (λ x. Says (W.own words.new) self.new.kept.entries (λ m. under self.old.binds.entries m addr ≡ x)) }
+        ensures leads { IfOk result (λ x. W.leads words.new x) }
+    {
+        match self.bound(addr) {
+            Some(word) => Ok(word),
+            None => self.word(words, addr),
+        }
+    }
+
+    /// Binds an address that is not bound privately.
+    pub fn bind(&mut self, addr: u32, word: u64) -> Result<(), NoMemory>
+        requires { word_at self.old.binds.entries addr ≡ None }
+        ensures binds { OnOk result (self.new.binds.entries ≡ self.old.binds.entries ++ (addr, word) ∷ []) }
+        ensures reads { self.new.reads.items ≡ self.old.reads.items }
+        ensures kept { self.new.kept.entries ≡ self.old.kept.entries }
+    {
+        match self.binds.insert(addr, word) {
+            Ok(_) => Ok(()),
+            Err(_) => Err(NoMemory),
+        }
+    }
+
+    /// Notes that a place was read unbound.
+    pub fn note_read(&mut self, place: u32) -> Result<(), NoMemory>
+        ensures binds { self.new.binds.entries ≡ self.old.binds.entries }
+        ensures reads { OnOk result (self.new.reads.items ≡ self.old.reads.items ++ place ∷ []) }
+        ensures kept { self.new.kept.entries ≡ self.old.kept.entries }
+    {
+        match self.reads.push(place) {
+            Ok(()) => Ok(()),
+            Err(_) => Err(NoMemory),
+        }
+    }
+
+    /// The private binding at a position from 0, in the order in which they were made; `None` past the end.
+    pub fn bound_at(&self, at: usize) -> Option<(u32, u64)>
+        ensures { result ≡ slice_get self.now.binds.entries at }
+    {
+        self.binds.get_index(at).map(|(addr, word)| (*addr, *word))
+    }
+
+    /// The place read at a position from 0; `None` past the end.
+    pub fn read_at(&self, at: usize) -> Option<u32>
+        ensures { result ≡ slice_get self.now.reads.items at }
+    {
+        self.reads.get(at).copied()
+    }
+
+    /// The kept word at a position from 0, in the order in which they were loaded; `None` past the end.
+    pub fn kept_at(&self, at: usize) -> Option<(u32, u64)>
+        ensures { result ≡ slice_get self.now.kept.entries at }
+    {
+        self.kept.get_index(at).map(|(addr, word)| (*addr, *word))
+    }
+
+    /// Drops the private bindings alone.
+    pub fn undo(&mut self)
+        ensures binds { self.new.binds.entries ≡ [] }
+        ensures reads { self.new.reads.items ≡ self.old.reads.items }
+        ensures kept { self.new.kept.entries ≡ self.old.kept.entries }
+    {
+        self.binds.clear();
+    }
+
+    /// Drops everything.
+    pub fn clear(&mut self)
+        ensures binds { self.new.binds.entries ≡ [] }
+        ensures reads { self.new.reads.items ≡ [] }
+        ensures kept { self.new.kept.entries ≡ [] }
+    {
+        self.undo();
+        self.reads.clear();
+        self.kept.clear();
+    }
+}
