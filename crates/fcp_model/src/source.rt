@@ -44,8 +44,10 @@ pub struct Clause {
 /// One element of an `-export`.
 #[derive(Clone, Copy, Debug, PartialEq, Eq)]
 pub struct Export {
+    /// The place of the name, in bytes from 0.
     pub at: u32,
     pub name: Sym,
+    /// The number of arguments.
     pub arity: u32,
 }
 

@@ -10,8 +10,10 @@ use fcp_grammar::{
 use fcp_model::{Clause, Item, Module, NoMemory, Seq, Sym, Term};
 use std::alloc::Global;
 
+/// The head of a clause.
 #[derive(Drop)]
 pub struct Head {
+    /// The place of its name, in bytes from 0.
     pub at: u32,
     pub name: Sym,
     pub args: Seq<Term>,
@@ -24,8 +26,11 @@ pub enum Part {
     Between,
     /// An attribute, with the place of its `-`.
     Attribute(u32, AttributeAt),
+    /// A head's name alone, with its place.
     Named(u32, Sym),
+    /// The arguments of a head: its place and name, those that have ended, and the one that is read.
     Args(u32, Sym, Seq<Term>, TermAt),
+    /// A whole head with arguments.
     Called(Head),
     /// The guard, if its `|` was read, and the items so far.
     Body(Head, Option<Seq<Item>>, Seq<Item>, Side),
@@ -39,8 +44,10 @@ pub struct State {
     pub part: Part,
 }
 
+/// How many items a guard, a body or a goal may have.
 pub const MOST_ITEMS: usize = 256;
 
+/// The items with one more behind them. `Err` is want of memory.
 pub fn add(items: Seq<Item>, item: Item) -> Result<Seq<Item>, NoMemory>
     ensures { IfOk result (λ v. v ≡ items ++ item ∷ []) }
 {
@@ -109,6 +116,8 @@ pub fn behind_head(
     }
 }
 
+/// One more word within the arguments of a head, and whether it is one too many. `None` says that it cannot stand there;
+/// `Err` is want of memory.
 #[tactic(auto, unfolding(crate::specs::Clauses::in_args))]
 pub fn in_args(
     alloc: Global,
@@ -193,6 +202,8 @@ fn behind_item(
     }
 }
 
+/// One more word within a guard or a body, and whether it is one too many. `None` says that it cannot stand there; `Err` is
+/// want of memory.
 #[tactic(auto, unfolding(crate::specs::Clauses::in_body))]
 pub fn in_body(
     alloc: Global,

@@ -2,10 +2,12 @@
 ghost use Rattle.std.specs.Prelude.{◌≡◌, ◌≢◌, ◌<◌, ◌≤◌, length, slice_index, true};
 ghost use Rattle.fcp_text.specs.Bytes as spec;
 
+/// Bytes of which runs are looked for.
 #[derive(Clone, Copy, Debug)]
 pub enum Class {
     /// Of a name or a variable behind its first byte.
     Word,
+    /// Of a number, but for its sign.
     Digit,
     /// Of a comment.
     Line,

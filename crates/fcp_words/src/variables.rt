@@ -9,7 +9,9 @@ use std::alloc::Global;
 /// What a text is read as.
 #[derive(Clone, Copy, Debug, PartialEq, Eq)]
 pub enum Form {
+    /// Variables are numbered anew in each clause, and have no names.
     Module,
+    /// All variables are numbered together, and their names are noted.
     Goal,
 }
 

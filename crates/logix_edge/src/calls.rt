@@ -13,6 +13,7 @@ pub struct Calls {
 }
 
 impl Calls {
+    /// No call was made yet; those of these numbers are to fail.
     pub fn new(fails: Seq<u32>) -> Calls
         ensures made { result.made ≡ 0 }
         ensures fails { result.fails ≡ fails }

@@ -14,6 +14,7 @@ pub struct Faults {
 }
 
 impl Faults {
+    /// No fetch failed yet.
     pub fn new() -> Faults
         ensures count { result.count ≡ 0 }
         ensures last { last_name result ≡ None }
