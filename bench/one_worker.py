@@ -8,14 +8,11 @@ round counts, and the largest peak. Time is that of the whole call, from its sta
 commit. Its peak is the least that can be measured here: the system counts what this script had in memory when it
 started the program, so a peak near that of `fixed` says only that the program needs no more.
 """
-import argparse
 import os
 import sys
 import tempfile
-import time
 
-ROOT = os.path.dirname(os.path.dirname(os.path.abspath(__file__)))
-PROGRAM = os.path.join(ROOT, "crates", "logix", "out", "logix")
+from calls import chosen, rounds_of
 
 # the exit statuses of runs that terminated, and that met the limit of commits
 TERMINATED, BUDGET = 0, 9
@@ -72,21 +69,6 @@ CASES = [
 ]
 
 
-def call(program, file, goal):
-    """Seconds, peak memory in KiB and exit status of one call, whose report goes nowhere."""
-    null = os.open(os.devnull, os.O_RDWR)
-    begun = time.monotonic()
-    child = os.fork()
-    if child == 0:
-        os.dup2(null, 0)
-        os.dup2(null, 1)
-        os.execv(program, [program, "run", file, goal])
-    _, status, usage = os.wait4(child, 0)
-    seconds = time.monotonic() - begun
-    os.close(null)
-    return seconds, usage.ru_maxrss, os.waitstatus_to_exitcode(status)
-
-
 def entries_of(program, file, goal):
     """The number of entries of the log, from the report of one more call."""
     with tempfile.TemporaryFile() as out:
@@ -110,20 +92,11 @@ def measure(program, folder, rounds, name, make, size):
     got = entries_of(program, file, goal)
     if got != entries:
         sys.exit(f"{name} at {size}: {got} entries, and {entries} were expected")
-    runs = [call(program, file, goal) for _ in range(rounds)]
-    for _, _, status in runs:
-        if status != wanted:
-            sys.exit(f"{name} at {size}: exit status {status}, and {wanted} was expected")
-    return len(text), entries, min(run[0] for run in runs), max(run[1] for run in runs)
+    return len(text), entries, *rounds_of(program, ["run", file, goal], rounds, wanted, f"{name} at {size}")
 
 
 def main():
-    options = argparse.ArgumentParser(description="Measures runs of one worker.")
-    options.add_argument("--program", default=PROGRAM)
-    options.add_argument("--rounds", type=int, default=3)
-    chosen = options.parse_args()
-    if not os.access(chosen.program, os.X_OK):
-        sys.exit(f"no program at {chosen.program}: ./logix builds it")
+    given = chosen("Measures runs of one worker.")
     print("| case | size | file, bytes | entries | seconds | entries per second | peak, KiB | peak bytes per entry |")
     print("|---|---:|---:|---:|---:|---:|---:|---:|")
     pairs = []
@@ -131,7 +104,7 @@ def main():
         for name, make, sizes in CASES:
             rows = []
             for size in sizes:
-                length, entries, seconds, peak = measure(chosen.program, folder, chosen.rounds, name, make, size)
+                length, entries, seconds, peak = measure(given.program, folder, given.rounds, name, make, size)
                 rows.append((entries, seconds, peak))
                 print(f"| {name} | {size:,} | {length:,} | {entries:,} | {seconds:.3f} | {entries / seconds:,.0f} | "
                       f"{peak:,} | {peak * 1024 / entries:,.0f} |", flush=True)

@@ -7,14 +7,11 @@ Each kind of text is made at about 100 KiB and at 1 MiB, and shown N times each 
 going to /dev/null. The fastest round counts, and the largest peak. Time is that of the whole call. The last column is
 the ratio of the two times; 10.24 is that of the lengths.
 """
-import argparse
 import os
 import sys
 import tempfile
-import time
 
-ROOT = os.path.dirname(os.path.dirname(os.path.abspath(__file__)))
-PROGRAM = os.path.join(ROOT, "crates", "logix", "out", "logix")
+from calls import chosen, rounds_of
 
 SIZES = (102_400, 1_048_576)
 
@@ -95,21 +92,6 @@ def late_fault(size):
 CASES = [blanks, comments, facts, procedures, rules, one_list, numbers, quoted, colliding, one_string, brackets, variables, late_fault]
 
 
-def call(program, file):
-    """Seconds, peak memory in KiB and exit status of one call, whose text goes nowhere."""
-    null = os.open(os.devnull, os.O_RDWR)
-    begun = time.monotonic()
-    child = os.fork()
-    if child == 0:
-        os.dup2(null, 0)
-        os.dup2(null, 1)
-        os.execv(program, [program, "show", file])
-    _, status, usage = os.wait4(child, 0)
-    seconds = time.monotonic() - begun
-    os.close(null)
-    return seconds, usage.ru_maxrss, os.waitstatus_to_exitcode(status)
-
-
 def measure(program, folder, rounds, make, size):
     text, wanted = make(size)
     if len(text) > size:
@@ -117,25 +99,16 @@ def measure(program, folder, rounds, make, size):
     file = os.path.join(folder, "module.fcp")
     with open(file, "w", encoding="ascii") as out:
         out.write(text)
-    runs = [call(program, file) for _ in range(rounds)]
-    for _, _, status in runs:
-        if status != wanted:
-            sys.exit(f"{make.__name__} at {size}: exit status {status}, and {wanted} was expected")
-    return min(run[0] for run in runs), max(run[1] for run in runs)
+    return rounds_of(program, ["show", file], rounds, wanted, f"{make.__name__} at {size}")
 
 
 def main():
-    options = argparse.ArgumentParser(description="Measures the reading of texts.")
-    options.add_argument("--program", default=PROGRAM)
-    options.add_argument("--rounds", type=int, default=3)
-    chosen = options.parse_args()
-    if not os.access(chosen.program, os.X_OK):
-        sys.exit(f"no program at {chosen.program}: ./logix builds it")
+    given = chosen("Measures the reading of texts.")
     print("| text | seconds at 100 KiB | peak, KiB | seconds at 1 MiB | peak, KiB | ratio of seconds |")
     print("|---|---:|---:|---:|---:|---:|")
     with tempfile.TemporaryDirectory() as folder:
         for make in CASES:
-            (quick, low), (slow, high) = (measure(chosen.program, folder, chosen.rounds, make, size) for size in SIZES)
+            (quick, low), (slow, high) = (measure(given.program, folder, given.rounds, make, size) for size in SIZES)
             print(f"| {make.__name__.replace('_', ' ')} | {quick:.3f} | {low:,} | {slow:.3f} | {high:,} | {slow / quick:.2f} |", flush=True)
 
 
