@@ -17,7 +17,7 @@ abbrev pub both_nothing : Left → Left → Bool
 both_nothing Nothing Nothing = true
 both_nothing _ _ = false
 
--- nothing of the expression was read
+-- no operator waits at this level
 abbrev pub is_nothing : Level → Bool
 is_nothing level = both_nothing level.sum level.product
 

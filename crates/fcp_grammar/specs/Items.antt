@@ -32,7 +32,7 @@ abbrev pub fresh_by : List Level → LeftSide → Level → Bool
 fresh_by [] L.Nothing level = is_nothing level
 fresh_by _ _ level = false
 
--- nothing of the item was read
+-- nothing of the item stands before the operand that is read now
 abbrev pub is_fresh : Sums → Bool
 is_fresh s = fresh_by s.groups s.left s.level
 

@@ -65,7 +65,7 @@ OneWorkerRunsAreRuns = (m : Program) (limits : Limits) (s : State) (controls : L
 abbrev pub OneWorkerRunsEnd : Type 0
 OneWorkerRunsEnd = (m : Program) (limits : Limits) (s : State) (controls : List Control) (evs : List Event) (at : Stand) → IsOrdered s → s.mode ≡ is_open → IsOneWorkerRun m limits s controls evs at → Ends m limits s evs (outcome_at limits at)
 
--- one report, with one outcome, is made from a state under limits and controls
+-- at most one report, with one outcome, is made from a state under limits and controls
 abbrev pub ARunHasOneReport : Type 0
 ARunHasOneReport = (m : Program) (s : State) (limits : Limits) (controls : List Control) (names : List Bytes) (variables : List (Option Sym)) (o o' : Outcome) (bytes bytes' : Bytes)
     → IsReport m s limits controls names variables o bytes → IsReport m s limits controls names variables o' bytes' → (o ≡ o') × (bytes ≡ bytes')

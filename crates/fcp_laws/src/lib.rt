@@ -28,7 +28,7 @@ pub fn one_worker_runs()
     ensures outcome { OneWorkerRunsEnd }
 {}
 
-/// One report is made from a state under limits and controls, whatever number of steps it is computed in.
+/// At most one report is made from a state under limits and controls, whatever number of steps it is computed in.
 pub fn reports()
     ensures { ARunHasOneReport }
 {}

@@ -55,8 +55,8 @@ impl Names {
         Names::for_text(alloc, &[])
     }
 
-    /// The nine reserved names, as numbers 0 to 8, for the strings of a text. The text is hashed first, so that strings cannot be
-    /// picked beforehand whose hashes fall together; the list does not depend on it.
+    /// The nine reserved names, as numbers 0 to 8, for the strings of a text. The text is hashed first, so that it is hard to
+    /// fill it with strings whose hashes fall together; the list does not depend on it.
     pub fn for_text(alloc: Global, text: &[u8]) -> Result<Names, NoMemory>
         ensures { IfOk result (λ n. n ≡ reserved_names) }
     {

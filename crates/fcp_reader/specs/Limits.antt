@@ -1,4 +1,4 @@
--- Believed: the limits of the language. What is read from a text keeps them.
+-- The limits of arguments, parts, variables and items. What is read from a text keeps them.
 use Rattle.std.specs.Prelude.{ℕ, Bool, true, ◌&&◌, nat_le, List, length}
 use Rattle.std.specs.List.{list_all}
 use Rattle.fcp_model.specs.declared.term.Term.{Term, fold-Term}

@@ -53,6 +53,6 @@ abbrev pub whole_by : Module → Part → Option Module
 whole_by m Q.Between = Some m
 whole_by m _ = None
 
--- the module, where no clause and no attribute was begun
+-- the module, where no clause and no attribute is open
 abbrev pub whole : State → Option Module
 whole s = whole_by s.read s.part

@@ -29,6 +29,6 @@ IsSpelledWell kind.Quoted text = IsUtf8 (unquoted text)
 IsSpelledWell (kind.Int n) text = Unit {0}
 IsSpelledWell (kind.Mark m) text = Unit {0}
 
--- each token has the spelling of its kind
+-- the names and variables of a text are ASCII, and its quoted strings UTF-8
 abbrev pub TokensAreSpelledWell : Type 0
 TokensAreSpelledWell = (z : Text) (ts : List Token) → tokens_of z ≡ Ok ts → All (λ t. IsSpelledWell t.kind (text_of z t)) ts

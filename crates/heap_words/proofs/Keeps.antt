@@ -1,5 +1,5 @@
 -- One more word on a list, and stretches of loads one after another.
-use Rattle.std.proofs.Common.{◌≡◌, ℕ, Bool, true, false, cond, [], ◌∷◌, ◌++◌, Option, Some, None, refl, sym, ap, ◌∙◌, subst, inl, inr, ⊎_elim}
+use Rattle.std.proofs.Common.{◌≡◌, ◌<◌, ℕ, Bool, true, false, cond, [], ◌∷◌, ◌++◌, Option, Some, None, refl, sym, ap, ◌∙◌, subst, inl, inr, ⊎_elim}
 use Rattle.std.specs.Prelude.{nat_eq, ◌⊎◌, unwrap_or}
 use Rattle.std.proofs.lemmas.Bool.{eqb-true, eq-eqb}
 use Rattle.std.proofs.lemmas.Option.{none-some}
@@ -39,11 +39,11 @@ new_there xs b y e = word_at-append xs b y b ∙ (ap (λ o. or_at o (one_at b y 
 
 module _ {S : Type 0} {addresses : S → ℕ} {sound : S → Type 0} {knows : S → ℕ → Type 0} {had : S → ℕ → ℕ → Type 0} {leads : S → ℕ → Type 0} {own shown : S → ℕ → Option ℕ} {later : S → S → Type 0} {gave : S → S → ℕ → ℕ → Type 0} (laws : WordsLaws {S = S} addresses sound knows had leads own shown later gave) where
   -- a loaded word is kept
-  pub kept_one : (kept : Seen) (v w : S) (b y : ℕ) → later v w → gave v w b y → Went later gave kept v (kept ++ (b, y) ∷ []) w
-  kept_one kept v w b y l g = record {
+  pub kept_one : (kept : Seen) (v w : S) (b y : ℕ) → later v w → gave v w b y → b < 4000000000 → Went later gave kept v (kept ++ (b, y) ∷ []) w
+  kept_one kept v w b y l g below = record {
     between = l;
     grows = λ a x e. still_there kept b y a x e;
-    given = λ a x e. ⊎_elim (λ i. inl i) (λ i. inr (subst (λ z. gave v w a z) i.1 (subst (λ c. gave v w c y) i.0 g))) (old_or_new kept b y a x e);
+    given = λ a x e. ⊎_elim (λ i. inl i) (λ i. inr (subst (λ z. gave v w a z) i.1 (subst (λ c. gave v w c y) i.0 g), subst (λ c. c < 4000000000) i.0 below)) (old_or_new kept b y a x e);
   }
 
   pub kept_holds : (kept binds : Seen) (v w : S) (b y : ℕ) → later v w → gave v w b y → Holds had leads kept binds v → Holds had leads (kept ++ (b, y) ∷ []) binds w
@@ -60,7 +60,7 @@ module _ {S : Type 0} {addresses : S → ℕ} {sound : S → Type 0} {knows : S 
   went_twice k1 k2 k3 u v w p q = record {
     between = laws.twice u v w p.between q.between;
     grows = λ a x e. q.grows a x (p.grows a x e);
-    given = λ a x e. ⊎_elim (λ i. ⊎_elim (λ j. inl j) (λ j. inr (laws.gave_before u v w a x j q.between)) (p.given a x i)) (λ i. inr (laws.gave_after u v w a x p.between i)) (q.given a x e);
+    given = λ a x e. ⊎_elim (λ i. ⊎_elim (λ j. inl j) (λ j. inr (laws.gave_before u v w a x j.0 q.between, j.1)) (p.given a x i)) (λ i. inr (laws.gave_after u v w a x p.between i.0, i.1)) (q.given a x e);
   }
 
   -- what agrees later agrees now

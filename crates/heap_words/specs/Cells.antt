@@ -5,6 +5,7 @@ use Rattle.heap_words.specs.declared.cell.Cell.TheVariants.{Unbound, Ref, RoRef,
 use Rattle.heap_words.specs.declared.cell.Stand.{Stand}
 use Rattle.heap_words.specs.declared.cell.Stand.TheVariants.{Ready, Waiting, Done}
 
+-- the number of a stand
 abbrev pub stand_code : Stand → ℕ
 stand_code Ready = 0
 stand_code Done = 1
@@ -15,9 +16,11 @@ abbrev pub raised : ℤ → ℕ
 raised (pos n) = 0x80000000000000 + n
 raised (negsuc n) = 0x80000000000000 - (n + 1)
 
+-- the small number of a raised one
 abbrev pub lowered : ℕ → ℤ
 lowered x = pos x -ℤ pos 0x80000000000000
 
+-- the tag of a cell's kind
 abbrev pub tag : Cell → ℕ
 tag (Unbound a) = 0
 tag (Ref a) = 1
@@ -68,6 +71,7 @@ IsCell (Status (Waiting n)) = n < 0x100000000
 IsCell (Raw n) = n < 0x100000000
 IsCell (Top a) = a < 0x100000000
 
+-- the stand of a number, where there is one
 abbrev pub stand_of : ℕ → Option Stand
 stand_of x = if nat_eq x 0 then Some Ready else (if nat_eq x 1 then Some Done else (if nat_lt x 0x100000002 then Some (Waiting (x - 2)) else None))
 
@@ -96,6 +100,7 @@ cell_of t x =
 unfoldable pub decoded : ℕ → Option Cell
 decoded w = cell_of (w % 16) (w / 16)
 
+-- neither an unbound place nor a status nor a top
 abbrev pub is_final_cell : Cell → Bool
 is_final_cell (Unbound a) = false
 is_final_cell (Status d) = false

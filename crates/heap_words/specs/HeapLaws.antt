@@ -5,7 +5,7 @@ use Rattle.std.proofs.lemmas.Bool.{and_parts, ltb-true}
 use Rattle.heap_words.specs.Cells.{decoded}
 use Rattle.heap_words.specs.Refers.{Refers, teller}
 use Rattle.heap_words.specs.Loading.{WordsLaws, tells_all}
-use Rattle.heap_words.specs.Heaps.{IsHeap, RefersInside, is_inside, inside_at, final_at, top_at}
+use Rattle.heap_words.specs.Heaps.{IsHeap, RefersInside, is_inside, inside_at, only_final, final_at, top_at}
 use Rattle.heap_words.specs.declared.cell.Cell.{Cell}
 use Rattle.heap_words.specs.declared.heap.PlainHeap.{PlainHeap}
 
@@ -48,4 +48,6 @@ heap_laws = record {
   reaches_by = λ w x t y n b c s l d k h e r. l.refers_by t y n b c d k h e r;
   plain = λ w x c s d t f. plain_inside w.words.items x c d t f;
   no_cycle = λ w s. s.no_cycle;
+  had_shown = λ w a x s h f. ap only_final h ∙ ap (λ t. cond t (Some x) None) f;
+  own_range = λ w a x e. let h : None ≡ Some x = e in cc;
 }

@@ -25,6 +25,7 @@ is_inside ws a = nat_lt a (length ws) && (nat_eq (a % 1024) 0 || nat_lt a (top_a
 abbrev pub inside_at : List ℕ → ℕ → Option ℕ
 inside_at ws a = if is_inside ws a then slice_get ws a else None
 
+-- the word, where it is final
 abbrev pub only_final : Option ℕ → Option ℕ
 only_final None = None
 only_final (Some x) = if is_final_word x then Some x else None
@@ -38,8 +39,9 @@ pub record RefersInside (ws : List ℕ) (x : ℕ) : Type 0 where
   pub refers : (b : ℕ) (c : Cell) → decoded x ≡ Some c → Refers c b → is_inside ws b ≡ true
   pub refers_by : (t y n b : ℕ) (c : Cell) → decoded x ≡ Some c → teller c ≡ Some t → inside_at ws t ≡ Some y → decoded y ≡ Some (Raw n) → RefersBy n c b → is_inside ws b ≡ true
 
+-- the words of a plain heap
 pub record IsHeap (ws : List ℕ) : Type 0 where
-  -- whole pages, of at most 4,000,000,000 words
+  -- whole pages, and at most 4,000,000,000 words in all of them
   pub whole : length ws % 1024 ≡ 0
   pub small : length ws ≤ 4000000000
   -- each top lies above its page's first word, and not past the page's end

@@ -1,6 +1,6 @@
 -- What is asked of words that are loaded.
-use Rattle.std.specs.Prelude.{◌≡◌, ℕ, ◌<◌, ◌≤◌, Option, Some, None}
-use Rattle.heap_words.specs.Cells.{decoded}
+use Rattle.std.specs.Prelude.{◌≡◌, ℕ, ◌<◌, ◌≤◌, true, Option, Some, None}
+use Rattle.heap_words.specs.Cells.{decoded, is_final_word}
 use Rattle.heap_words.specs.Refers.{Refers, teller, RefersBy}
 use Rattle.heap_words.specs.declared.cell.Cell.{Cell}
 use Rattle.heap_words.specs.declared.cell.Cell.TheVariants.{Raw}
@@ -44,3 +44,7 @@ pub record WordsLaws {S : Type 0} (addresses : S → ℕ) (sound : S → Type 0)
   pub plain : (w : S) (x : ℕ) (c : Cell) → sound w → decoded x ≡ Some c → tells_all c → ((b : ℕ) → Refers c b → knows w b) → leads w x
   -- final words have no cycle
   pub no_cycle : (w : S) → sound w → Acyclic (shown w)
+  -- a final word that was loaded is shown
+  pub had_shown : (w : S) (a x : ℕ) → sound w → had w a x → is_final_word x ≡ true → shown w a ≡ Some x
+  -- own words stand from 4,000,000,000 on
+  pub own_range : (w : S) (a x : ℕ) → own w a ≡ Some x → 4000000000 ≤ a

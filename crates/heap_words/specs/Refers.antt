@@ -4,7 +4,7 @@ use Rattle.heap_words.specs.declared.cell.Cell.{Cell}
 use Rattle.heap_words.specs.declared.cell.Cell.TheVariants.{Unbound, Ref, RoRef, Wide, Cons, Tuple}
 
 -- by itself: of a place to its word and to its name before it, of a pair to its two parts, of an unbound place to the
--- three words of the first entry of its waiting list
+-- three words of the first entry of its waiting list, of a wide number to its lower bits, of a tuple to its `Raw`
 abbrev pub Refers : Cell → ℕ → Type 0
 Refers (Unbound e) b = (0 < e) × (e ≤ b) × (b < e + 3)
 Refers (Ref a) b = (b ≡ a) ⊎ (suc b ≡ a)

@@ -1,5 +1,5 @@
 -- Words by address, and what a trail says of them.
-use Rattle.std.specs.Prelude.{◌≡◌, ℕ, ◌⊎◌, List, Option, Some, nat_eq, unwrap_or}
+use Rattle.std.specs.Prelude.{◌≡◌, ℕ, ◌<◌, ◌⊎◌, List, Option, Some, nat_eq, unwrap_or}
 use Rattle.std.specs.Map.{lookup}
 
 -- all words of a store at one moment, or as a try saw them
@@ -33,11 +33,11 @@ pub record Holds {S : Type 0} (had : S → ℕ → ℕ → Type 0) (leads : S �
   pub kept_had : (a x : ℕ) → word_at kept a ≡ Some x → had w a x
   pub bound_leads : (a x : ℕ) → word_at binds a ≡ Some x → leads w x
 
--- the trail kept what was loaded between, and nothing else
+-- only loads lie between, and what the trail kept besides was loaded there and is none of a try's own words
 pub record Went {S : Type 0} (later : S → S → Type 0) (gave : S → S → ℕ → ℕ → Type 0) (kept : Seen) (w : S) (kept' : Seen) (w' : S) : Type 0 where
   pub between : later w w'
   pub grows : (a x : ℕ) → word_at kept a ≡ Some x → word_at kept' a ≡ Some x
-  pub given : (a x : ℕ) → word_at kept' a ≡ Some x → (word_at kept a ≡ Some x) ⊎ gave w w' a x
+  pub given : (a x : ℕ) → word_at kept' a ≡ Some x → (word_at kept a ≡ Some x) ⊎ (gave w w' a x × (a < 4000000000))
 
 -- only loads lie between, and the trail kept what they gave
 pub record Loaded {S : Type 0} (is_sound : S → Type 0) (had : S → ℕ → ℕ → Type 0) (leads : S → ℕ → Type 0) (later : S → S → Type 0) (gave : S → S → ℕ → ℕ → Type 0) (kept binds : Seen) (w : S) (kept' binds' : Seen) (w' : S) : Type 0 where

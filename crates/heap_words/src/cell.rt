@@ -103,6 +103,7 @@ pub fn encode(cell: Cell) -> u64
     word_of(cell)
 }
 
+/// The word of a cell, by its kind.
 fn word_of(cell: Cell) -> u64
     requires { IsCell cell }
     ensures { result ≡ code cell }
@@ -123,6 +124,7 @@ fn word_of(cell: Cell) -> u64
     }
 }
 
+/// The number of a stand.
 fn stand_number(stand: Stand) -> u64
     ensures { result ≡ stand_code stand }
 {
@@ -164,6 +166,7 @@ pub fn decode(word: u64) -> Option<Cell>
     }
 }
 
+/// The stand of a number, where there is one.
 fn stand_with(number: u64) -> Option<Stand>
     ensures { result ≡ stand_of number }
 {

@@ -1,4 +1,4 @@
--- What is simple and within the limits of the language is what the engine runs.
+-- What is simple and within the limits of arguments, parts, variables and items is what the engine runs.
 use Rattle.std.proofs.Common.{◌≡◌, ℕ, Bool, true, false, List, [], ◌∷◌, length, ◌≤◌, refl, sym, ◌∙◌, true≢false}
 use Rattle.std.specs.Prelude.{◌&&◌, nat_le}
 use Rattle.std.specs.List.{list_all}

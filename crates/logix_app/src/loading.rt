@@ -76,7 +76,7 @@ fn is_runnable(loaded: &Loaded, goal: &GoalText) -> bool
         && are_called(loaded, goal.items.as_slice())
 }
 
-/// The run of a goal over a module, where both are of what runs so far. Both keep the limits of the language.
+/// The run of a goal over a module, where both are of what runs so far. Both keep the limits of arguments, parts, variables and items.
 fn answer_loaded(alloc: Global, names: &Names, loaded: &Loaded, goal: &GoalText) -> Answer
     requires within { is_module_within loaded.now ≡ true }
     requires few { length loaded.now.clauses ≤ 1048576 }
@@ -93,7 +93,7 @@ fn answer_loaded(alloc: Global, names: &Names, loaded: &Loaded, goal: &GoalText)
     }
 }
 
-/// The answer to the text of a goal for a module that keeps the limits of the language.
+/// The answer to the text of a goal for a module that keeps these limits.
 fn answer_goal(alloc: Global, names: Names, loaded: &Loaded, goal: &[u8]) -> Answer
     requires short { length goal.now ≤ 1048576 }
     requires within { is_module_within loaded.now ≡ true }

@@ -1,4 +1,4 @@
--- Clauses whose heads are of strings and variables alone, without a guard.
+-- Modules and goals of strings and variables alone, without guards, and within the limits of the engine.
 use Rattle.std.specs.Prelude.{◌≡◌, ℕ, true, List}
 use Rattle.fcp_model.specs.declared.term.Term.{Term}
 use Rattle.fcp_model.specs.declared.source.Call.{Call}

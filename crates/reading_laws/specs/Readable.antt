@@ -86,7 +86,7 @@ has_body [] body = true
 has_body (g ∷ gs) [] = false
 has_body (g ∷ gs) (i ∷ is) = true
 
--- no part of the clause is one too many
+-- no part of the clause is one too many, and where there is a guard there is a body
 abbrev pub is_small_clause : Clause → Bool
 is_small_clause c = nat_le (length c.args) 64 && are_small_terms c.args && are_small_items c.guard && are_small_items c.body && has_body c.guard c.body
 

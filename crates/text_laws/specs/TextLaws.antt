@@ -37,7 +37,7 @@ ModulesAreSpelled = (names : List Text) (m : Module) (ps : List Spelling) → sp
 abbrev pub TermsFit : Type 0
 TermsFit = (names : List Text) (t : Term) → AreWritableNames names → is_writable_term t ≡ true → Fits true (term_spellings names t [])
 
--- the spellings of a module may stand behind one another
+-- the spellings of a writable module may stand behind one another
 abbrev pub ModulesFit : Type 0
 ModulesFit = (names : List Text) (m : Module) → IsWritable names m → Fits true (module_spellings names m [])
 
@@ -47,7 +47,7 @@ ModulesFit = (names : List Text) (m : Module) → IsWritable names m → Fits tr
 abbrev pub TermTextsAreCut : Type 0
 TermTextsAreCut = (names : List Text) (t : Term) → AreWritableNames names → is_writable_term t ≡ true → tokens_of (term_text names t) ≡ Ok (tokens_at 0 (term_spellings names t []))
 
--- a canonical text is cut into the tokens that were written
+-- the canonical text of a writable module is cut into the tokens that were written
 abbrev pub ModuleTextsAreCut : Type 0
 ModuleTextsAreCut = (names : List Text) (m : Module) → IsWritable names m → tokens_of (module_text names m) ≡ Ok (tokens_at 0 (module_spellings names m []))
 

@@ -6,7 +6,7 @@ use Rattle.heap_words.proofs.trail.Trail.word.Goals as goal
 pub returns-in_ok-keep-clause-loaded : goal.returns-in_ok-keep-clause-loaded
 returns-in_ok-keep-clause-loaded g c = record {
   sound = g.met.W.Words.laws.stays_sound _ _ c.requires.sound c.load-word.ensures.later;
-  went = rw c.in_ok-keep.ensures.kept (kept_one g.met.W.Words.laws _ _ _ _ _ c.load-word.ensures.later c.load-word.ensures.gave);
+  went = rw c.in_ok-keep.ensures.kept (kept_one g.met.W.Words.laws _ _ _ _ _ c.load-word.ensures.later c.load-word.ensures.gave c.if-addr-lt-OWN.true);
   holds = rw (c.in_ok-keep.ensures.kept, c.in_ok-keep.ensures.binds) (kept_holds g.met.W.Words.laws _ _ _ _ _ _ c.load-word.ensures.later c.load-word.ensures.gave c.requires.holds);
 }
 
