@@ -9,16 +9,16 @@ use Rattle.fcp_model.specs.Programs.{Program}
 use Rattle.fcp_model.specs.States.{Process, State, is_running, is_suspended, is_ready, process_named}
 use Rattle.fcp_model.specs.Events.{Event, event_of}
 use Rattle.fcp_model.specs.Runs.{move_on, agreed, next, replay, IsRun}
-use Rattle.fcp_model.specs.OneWorker.{Stand, Ruling, ends, passes, makes, is_over, is_due, control_ruling, front_ruling, queue_ruling, ruling, followed, rulings, begin, IsOneWorkerRun}
+use Rattle.fcp_model.specs.OneWorker.{Schedule, Ruling, ends, passes, makes, is_over, is_due, control_ruling, front_ruling, queue_ruling, ruling, followed, rulings, begin, IsOneWorkerRun}
 use Rattle.fcp_model.proofs.MoreSteps.{Refines, Grows, at_least}
 use Rattle.fcp_model.proofs.OneDecision.{option_map_more, decide_more}
 
--- the events and the stand of an answer
-abbrev pub first_part : List Event → Option (List Event × Stand) → List Event
+-- the events and the schedule of an answer
+abbrev pub first_part : List Event → Option (List Event × Schedule) → List Event
 first_part evs None = evs
 first_part evs (Some r) = r.0
 
-abbrev pub second : Stand → Option (List Event × Stand) → Stand
+abbrev pub second : Schedule → Option (List Event × Schedule) → Schedule
 second at None = at
 second at (Some r) = r.1
 
@@ -68,52 +68,52 @@ choice_more true x o o' h = λ y e. e
 choice_more false x o o' h = h
 
 module _ (m : Program) (limits : Limits) where
-  queue_more : (n : ℕ) (at : Stand) (q : List Process) → Refines (queue_ruling n m limits at q) (queue_ruling (suc n) m limits at q)
+  queue_more : (n : ℕ) (at : Schedule) (q : List Process) → Refines (queue_ruling n m limits at q) (queue_ruling (suc n) m limits at q)
   queue_more n at [] = λ x e. e
   queue_more n at (p ∷ rest) = choice_more (leb limits.commits at.commits || leb limits.moves at.moves || leb (length at.queue) at.passed) (Some ends) _ _ (option_map_more (λ d. front_ruling limits at p rest (event_of m at.state p d)) _ _ (decide_more m at.state.bound p.goal n))
 
-  pub ruling_more : (at : Stand) → Grows (λ n. ruling n m limits at)
+  pub ruling_more : (at : Schedule) → Grows (λ n. ruling n m limits at)
   ruling_more at n =
       choice_more (is_over at.state.mode) (Some ends) _ _
       (choice_more (is_due at.controls at.moves) (Some (control_ruling at at.controls)) _ _ (choice_more (is_suspended at.state.mode) (Some ends) _ _ (queue_more n at at.queue)))
 
-  followed_more : (f g : Stand → Option (List Event × Stand)) → ((x : Stand) → Refines (f x) (g x)) → (at : Stand) (o o' : Option Ruling) → Refines o o' → Refines (followed f at o) (followed g at o')
+  followed_more : (f g : Schedule → Option (List Event × Schedule)) → ((x : Schedule) → Refines (f x) (g x)) → (at : Schedule) (o o' : Option Ruling) → Refines o o' → Refines (followed f at o) (followed g at o')
   followed_more f g h at None o' i = λ x e. cc
   followed_more f g h at (Some ends) o' i = λ x e. rw (i ends refl) e
   followed_more f g h at (Some (passes to)) o' i = λ x e. rw (i (passes to) refl) (h to x e)
   followed_more f g h at (Some (makes ev to)) o' i = λ x e. rw (i (makes ev to) refl) (option_map_more (λ r. (ev ∷ r.0, r.1)) _ _ (h to) x e)
 
-  rulings_more : (i : ℕ) (at : Stand) → Grows (λ n. rulings i n m limits at)
+  rulings_more : (i : ℕ) (at : Schedule) → Grows (λ n. rulings i n m limits at)
   rulings_more zero at n = λ x e. e
   rulings_more (suc i) at n = followed_more _ _ (λ x. rulings_more i x n) at _ _ (ruling_more at n)
 
   -- a ruling more changes nothing where the run has ended
-  abbrev StillAt : Stand → Option (List Event × Stand) → Option (List Event × Stand) → Type 0
+  abbrev StillAt : Schedule → Option (List Event × Schedule) → Option (List Event × Schedule) → Type 0
   StillAt to o o' = (evs : List Event) → o ≡ Some (evs, to) → o' ≡ Some (evs, to)
 
-  made_still : (to : Stand) (ev : Event) (o o' : Option (List Event × Stand)) → StillAt to o o' → StillAt to (option_map (λ r. (ev ∷ r.0, r.1)) o) (option_map (λ r. (ev ∷ r.0, r.1)) o')
+  made_still : (to : Schedule) (ev : Event) (o o' : Option (List Event × Schedule)) → StillAt to o o' → StillAt to (option_map (λ r. (ev ∷ r.0, r.1)) o) (option_map (λ r. (ev ∷ r.0, r.1)) o')
   made_still to ev None o' h evs e = absurd cc
   made_still to ev (Some r) o' h evs e =
       let there : r.1 ≡ to = ap (second to) e in
-      rw (h r.0 (ap (λ (y : Stand). Some (r.0, y)) there)) (ap (λ (y : Stand). Some (ev ∷ r.0, y)) (sym there) ∙ e)
+      rw (h r.0 (ap (λ (y : Schedule). Some (r.0, y)) there)) (ap (λ (y : Schedule). Some (ev ∷ r.0, y)) (sym there) ∙ e)
 
-  still : (n : ℕ) (to : Stand) → ruling n m limits to ≡ Some ends → (i : ℕ) (at : Stand) → StillAt to (rulings i n m limits at) (rulings (suc i) n m limits at)
+  still : (n : ℕ) (to : Schedule) → ruling n m limits to ≡ Some ends → (i : ℕ) (at : Schedule) → StillAt to (rulings i n m limits at) (rulings (suc i) n m limits at)
   still n to stop zero at = λ evs e.
       let there : at ≡ to = ap (second to) e in
       ap (followed (rulings zero n m limits) at) (subst (λ x. ruling n m limits x ≡ Some ends) (sym there) stop) ∙ e
   still n to stop (suc i) at = go (ruling n m limits at) (λ x. still n to stop i x)
     where
-      go : (o : Option Ruling) → ((x : Stand) → StillAt to (rulings i n m limits x) (rulings (suc i) n m limits x)) → StillAt to (followed (rulings i n m limits) at o) (followed (rulings (suc i) n m limits) at o)
+      go : (o : Option Ruling) → ((x : Schedule) → StillAt to (rulings i n m limits x) (rulings (suc i) n m limits x)) → StillAt to (followed (rulings i n m limits) at o) (followed (rulings (suc i) n m limits) at o)
       go None rec evs e = absurd cc
       go (Some ends) rec evs e = e
       go (Some (passes x)) rec evs e = rec x evs e
       go (Some (makes ev x)) rec evs e = made_still to ev _ _ (rec x) evs e
 
-  still_more : (n : ℕ) (to : Stand) → ruling n m limits to ≡ Some ends → (j i : ℕ) (at : Stand) → StillAt to (rulings i n m limits at) (rulings (j + i) n m limits at)
+  still_more : (n : ℕ) (to : Schedule) → ruling n m limits to ≡ Some ends → (j i : ℕ) (at : Schedule) → StillAt to (rulings i n m limits at) (rulings (j + i) n m limits at)
   still_more n to stop zero i at evs e = let z : 0 + i ≡ i = omega arith in rw z e
   still_more n to stop (suc j) i at evs e = let z : suc j + i ≡ suc (j + i) = omega arith in rw z (still n to stop (j + i) at evs (still_more n to stop j i at evs e))
 
-  pub one_run : (s : State) (cs : List Control) (evs evs' : List Event) (at at' : Stand) → IsOneWorkerRun m limits s cs evs at → IsOneWorkerRun m limits s cs evs' at' → (evs ≡ evs') × (at ≡ at')
+  pub one_run : (s : State) (cs : List Control) (evs evs' : List Event) (at at' : Schedule) → IsOneWorkerRun m limits s cs evs at → IsOneWorkerRun m limits s cs evs' at' → (evs ≡ evs') × (at ≡ at')
   one_run s cs evs evs' at at' r r' =
       let n : ℕ = (r.leads.steps + r.steps) + (r'.leads.steps + r'.steps) in
       let go : rulings (r'.leads.count + r.leads.count) n m limits (begin s cs) ≡ Some (evs, at) =

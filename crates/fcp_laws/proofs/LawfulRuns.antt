@@ -15,15 +15,16 @@ use Rattle.fcp_model.specs.States.{ready, Process, State, Mode, is_open, is_held
 use Rattle.fcp_model.specs.Events.{Event, event_of, control_event}
 use Rattle.fcp_model.specs.Runs.{is_same_move, move_on, move, agreed, next, replay, entries_of}
 use Rattle.fcp_model.specs.Bounds.{is_commit, is_control, one, KeepsCounts, act_entry, ends_in_fail, control_places, NotDue, moves_in}
-use Rattle.fcp_model.specs.OneWorker.{Stand, ends, is_over, is_due, mode_after, control_ruling, after_event, queue_ruling, ruling, rulings, begin, IsOneWorkerRun}
-use Rattle.fcp_model.specs.Stands.{IsOrdered, IsSoundStand}
-use Rattle.fcp_model.proofs.ProcessNames.{same_itself}
-use Rattle.fcp_model.proofs.Rulings.{Holds, event_of_control, after_control}
-use Rattle.fcp_model.proofs.SoundStands.{begin_sound, control_sound, pass_sound, move_sound, front_is_ready}
-use Rattle.fcp_model.proofs.StandCounts.{LeadsOn, by_rulings, HasCounted, leads_counts, begin_large, leads_large}
-use Rattle.fcp_laws.specs.LawfulControls.{is_allowed, AreLawfulFrom, AreLawful}
+use Rattle.fcp_model.specs.OneWorker.{Schedule, ends, is_over, is_due, mode_after, control_ruling, after_event, queue_ruling, ruling, rulings, begin, IsOneWorkerRun}
+use Rattle.fcp_model.specs.LawfulStates.{IsOrdered}
+use Rattle.fcp_laws.specs.Schedules.{IsSoundSchedule}
+use Rattle.fcp_laws.proofs.ProcessNames.{same_itself}
+use Rattle.fcp_laws.proofs.Rulings.{Holds, event_of_control, after_control}
+use Rattle.fcp_laws.proofs.SoundSchedules.{begin_sound, control_sound, pass_sound, move_sound, front_is_ready}
+use Rattle.fcp_laws.proofs.ScheduleCounts.{LeadsOn, by_rulings, HasCounted, leads_counts, begin_large, leads_large}
+use Rattle.fcp_model.specs.LawfulControls.{is_allowed, AreLawfulFrom, AreLawful}
 use Rattle.fcp_laws.specs.Laws.{IsLawfulRun}
-use Rattle.fcp_laws.proofs.LawfulStands.{has_failed, IsAhead, IsLawfulStand, next_allowed, control_lawful, pass_lawful, move_lawful, begin_lawful, leads_lawful, not_due_yet}
+use Rattle.fcp_laws.proofs.LawfulSchedules.{has_failed, IsAhead, IsLawfulSchedule, next_allowed, control_lawful, pass_lawful, move_lawful, begin_lawful, leads_lawful, not_due_yet}
 
 -- each entry is legal
 replayed : (n : ℕ) (m : Program) (s : State) (ev : Event) (evs : List Event) → next n m s ev.entry ≡ Some ev → replay n m ev.after (entries_of evs) ≡ Some evs → replay n m s (ev.entry ∷ entries_of evs) ≡ Some (ev ∷ evs)
@@ -54,10 +55,10 @@ move_legal n m s p (commits k bs rs) e = agreed_itself m s p (commits k bs rs) _
 move_legal n m s p (waits_on rs) e = agreed_itself m s p (waits_on rs) _ e
 move_legal n m s p (decides_fail rs) e = agreed_itself m s p (decides_fail rs) _ e
 
-abbrev LegalOn : ℕ → Program → Stand → List Event × Stand → Type 0
-LegalOn n m from x = IsSoundStand from → IsLawfulStand from → replay n m from.state (entries_of x.0) ≡ Some x.0
+abbrev LegalOn : ℕ → Program → Schedule → List Event × Schedule → Type 0
+LegalOn n m from x = IsSoundSchedule from → IsLawfulSchedule from → replay n m from.state (entries_of x.0) ≡ Some x.0
 
-legal_on : (n : ℕ) (m : Program) (limits : Limits) (at : Stand) → Holds n m limits at (LeadsOn (LegalOn n m) at)
+legal_on : (n : ℕ) (m : Program) (limits : Limits) (at : Schedule) → Holds n m limits at (LeadsOn (LegalOn n m) at)
 legal_on n m limits at = record {
   at_end = tt;
   at_control = λ o c cs i j x rec h l.
@@ -86,10 +87,10 @@ move_counts limits c k m s p (commits j bs rs) es u v h = ((u, v), h)
 move_counts limits c k m s p (waits_on rs) es u v h = ((u, v), h)
 move_counts limits c k m s p (decides_fail rs) es u v h = ((u, v), h)
 
-abbrev CountsOn : Limits → Stand → List Event × Stand → Type 0
+abbrev CountsOn : Limits → Schedule → List Event × Schedule → Type 0
 CountsOn limits from x = KeepsCounts limits from.commits from.moves (entries_of x.0)
 
-counts_on : (n : ℕ) (m : Program) (limits : Limits) (at : Stand) → Holds n m limits at (LeadsOn (CountsOn limits) at)
+counts_on : (n : ℕ) (m : Program) (limits : Limits) (at : Schedule) → Holds n m limits at (LeadsOn (CountsOn limits) at)
 counts_on n m limits at = record {
   at_end = tt;
   at_control = λ o c cs i j x h. control_counts limits at.commits at.moves c.act (entries_of x.0) h;
@@ -101,7 +102,7 @@ counts_on n m limits at = record {
 abbrev place_of : Control → ℕ × Entry
 place_of c = (c.after, act_entry c.act)
 
-record MadeControls (from : Stand) (evs : List Event) (at : Stand) : Type 0 where
+record MadeControls (from : Schedule) (evs : List Event) (at : Schedule) : Type 0 where
   made : List Control
   split : from.controls ≡ made ++ at.controls
   placed : control_places from.moves (entries_of evs) ≡ map place_of made
@@ -121,10 +122,10 @@ move_entry m s p (decides_fail rs) = refl
 abbrev places_by : Bool → ℕ → Entry → List Entry → List (ℕ × Entry)
 places_by b k e es = cond b ((k, e) ∷ control_places k es) (control_places (k + 1) es)
 
-abbrev MadeOn : Stand → List Event × Stand → Type 0
+abbrev MadeOn : Schedule → List Event × Schedule → Type 0
 MadeOn from x = MadeControls from x.0 x.1
 
-made_on : (n : ℕ) (m : Program) (limits : Limits) (at : Stand) → Holds n m limits at (LeadsOn MadeOn at)
+made_on : (n : ℕ) (m : Program) (limits : Limits) (at : Schedule) → Holds n m limits at (LeadsOn MadeOn at)
 made_on n m limits at = record {
   at_end = tt;
   at_control = λ o c cs i j x h. record {
@@ -142,11 +143,11 @@ made_on n m limits at = record {
 }
 
 -- a run that failed has a fail as its last entry, and nothing follows where a run is over
-record IsOverAt (from : Stand) (evs : List Event) (at : Stand) : Type 0 where
+record IsOverAt (from : Schedule) (evs : List Event) (at : Schedule) : Type 0 where
   none : evs ≡ []
   stays : at.state.mode ≡ from.state.mode
 
-record FailsLast (from : Stand) (evs : List Event) (at : Stand) : Type 0 where
+record FailsLast (from : Schedule) (evs : List Event) (at : Schedule) : Type 0 where
   over : is_over from.state.mode ≡ true → IsOverAt from evs at
   last : is_over from.state.mode ≡ false → has_failed at.state.mode ≡ true → ends_in_fail (entries_of evs) ≡ true
 
@@ -166,25 +167,25 @@ control_fails_not act.Suspend mode o f = true≢false (sym f)
 control_fails_not act.Resume mode o f = true≢false (sym f)
 control_fails_not act.Abort mode o f = true≢false (sym f)
 
-abbrev FailsOn : Stand → List Event × Stand → Type 0
+abbrev FailsOn : Schedule → List Event × Schedule → Type 0
 FailsOn from x = FailsLast from x.0 x.1
 
-nothing_fails : (at : Stand) → FailsOn at ([], at)
+nothing_fails : (at : Schedule) → FailsOn at ([], at)
 nothing_fails at = record { over = λ o. record { none = refl; stays = refl }; last = λ o f. absurd (failed_is_over at.state.mode o f) }
 
-control_fails : (at : Stand) → is_over at.state.mode ≡ false → (c : Control) (cs : List Control) (x : List Event × Stand) → FailsOn (after_control at c cs) x → FailsOn at (event_of_control at c ∷ x.0, x.1)
+control_fails : (at : Schedule) → is_over at.state.mode ≡ false → (c : Control) (cs : List Control) (x : List Event × Schedule) → FailsOn (after_control at c cs) x → FailsOn at (event_of_control at c ∷ x.0, x.1)
 control_fails at o c cs x h = record { over = λ u. absurd (true≢false (sym u ∙ o)); last = λ u f. go (is_over (mode_after c.act at.state.mode)) refl f }
   where
     go : (b : Bool) → is_over (mode_after c.act at.state.mode) ≡ b → has_failed x.1.state.mode ≡ true → ends_in_fail (act_entry c.act ∷ entries_of x.0) ≡ true
     go true e f = absurd (control_fails_not c.act at.state.mode o (sym (ap has_failed (h.over e).stays) ∙ f))
     go false e f = fail_behind (act_entry c.act) (entries_of x.0) (h.last e f)
 
-move_fails : (m : Program) (at : Stand) (p : Process) (rest : List Process) (d : Decision) → is_over at.state.mode ≡ false → (x : List Event × Stand) → FailsOn (after_event at rest (event_of m at.state p d)) x → FailsOn at (event_of m at.state p d ∷ x.0, x.1)
+move_fails : (m : Program) (at : Schedule) (p : Process) (rest : List Process) (d : Decision) → is_over at.state.mode ≡ false → (x : List Event × Schedule) → FailsOn (after_event at rest (event_of m at.state p d)) x → FailsOn at (event_of m at.state p d ∷ x.0, x.1)
 move_fails m at p rest (commits k bs rs) o x h = record { over = λ u. absurd (true≢false (sym u ∙ o)); last = λ u f. fail_behind (Commit p.name k) (entries_of x.0) (h.last o f) }
 move_fails m at p rest (waits_on rs) o x h = record { over = λ u. absurd (true≢false (sym u ∙ o)); last = λ u f. fail_behind (Hang p.name) (entries_of x.0) (h.last o f) }
 move_fails m at p rest (decides_fail rs) o x h = record { over = λ u. absurd (true≢false (sym u ∙ o)); last = λ u f. subst (λ evs. ends_in_fail (Fail p.name ∷ entries_of evs) ≡ true) (sym (h.over refl).none) refl }
 
-fails_on : (n : ℕ) (m : Program) (limits : Limits) (at : Stand) → Holds n m limits at (LeadsOn FailsOn at)
+fails_on : (n : ℕ) (m : Program) (limits : Limits) (at : Schedule) → Holds n m limits at (LeadsOn FailsOn at)
 fails_on n m limits at = record {
   at_end = tt;
   at_control = λ o c cs i j x h. control_fails at o c cs x h;
@@ -193,7 +194,7 @@ fails_on n m limits at = record {
 }
 
 -- where a run ends the next control is not due
-module _ (n : ℕ) (m : Program) (limits : Limits) (at : Stand) where
+module _ (n : ℕ) (m : Program) (limits : Limits) (at : Schedule) where
   control_goes_on : (cs : List Control) → is_due cs at.moves ≡ true → Some (control_ruling at cs) ≡ Some ends → ⊥
   control_goes_on [] d e = true≢false (sym d)
   control_goes_on (c ∷ cs) d e = cc
@@ -214,7 +215,7 @@ nothing_behind_abort act.Suspend e = true≢false (sym e)
 nothing_behind_abort act.Resume e = true≢false (sym e)
 nothing_behind_abort act.Abort e = true≢false (sym e)
 
-none_due : (n : ℕ) (m : Program) (limits : Limits) (at : Stand) (log : List Entry) → IsLawfulStand at → ruling n m limits at ≡ Some ends → at.moves ≡ moves_in log → (has_failed at.state.mode ≡ true → ends_in_fail log ≡ true) →
+none_due : (n : ℕ) (m : Program) (limits : Limits) (at : Schedule) (log : List Entry) → IsLawfulSchedule at → ruling n m limits at ≡ Some ends → at.moves ≡ moves_in log → (has_failed at.state.mode ≡ true → ends_in_fail log ≡ true) →
     (cs : List Control) → at.controls ≡ cs → NotDue log cs
 none_due n m limits at log h e v f [] i = tt
 none_due n m limits at log h e v f (c ∷ cs) i = go at.state.mode refl
@@ -234,7 +235,7 @@ none_due n m limits at log h e v f (c ∷ cs) i = go at.state.mode refl
         absurd (nothing_behind_abort c.act lawful.1)
 
 -- all of it
-pub is_lawful_run : (m : Program) (limits : Limits) (s : State) (cs : List Control) (evs : List Event) (at : Stand) → IsOrdered s → s.mode ≡ is_open → AreLawful cs → IsOneWorkerRun m limits s cs evs at → IsLawfulRun m limits s cs evs at
+pub is_lawful_run : (m : Program) (limits : Limits) (s : State) (cs : List Control) (evs : List Event) (at : Schedule) → IsOrdered s → s.mode ≡ is_open → AreLawful cs → IsOneWorkerRun m limits s cs evs at → IsLawfulRun m limits s cs evs at
 is_lawful_run m limits s cs evs at ordered opened lawful run = record {
   legal = (steps, by_rulings steps m limits (LegalOn steps m) (λ to h l. refl) (legal_on steps m limits) count from (evs, at) followed (begin_sound s cs ordered) first);
   last = sym counted.state;
@@ -258,13 +259,13 @@ is_lawful_run m limits s cs evs at ordered opened lawful run = record {
     count : ℕ
     count = run.leads.count
 
-    from : Stand
+    from : Schedule
     from = begin s cs
 
     followed : rulings count steps m limits from ≡ Some (evs, at)
     followed = run.leads.followed
 
-    first : IsLawfulStand from
+    first : IsLawfulSchedule from
     first = begin_lawful s cs opened lawful
 
     counted : HasCounted s evs at

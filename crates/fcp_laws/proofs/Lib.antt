@@ -1,6 +1,14 @@
 pub mod DeterminedRuns
+pub mod EndingOutcomes
 pub mod LawfulRuns
-pub mod LawfulStands
+pub mod LawfulSchedules
+pub mod Leading
 pub mod MoreReportSteps
 pub mod MoreTextSteps
 pub mod OneReport
+pub mod ProcessNames
+pub mod QueueMoves
+pub mod Rulings
+pub mod ScheduleCounts
+pub mod SoundSchedules
+pub mod WaitingProcesses

@@ -5,7 +5,7 @@ use Rattle.fcp_model.specs.declared.run.Control.{Control}
 use Rattle.fcp_model.specs.declared.run.Entry.{Entry}
 use Rattle.fcp_model.specs.declared.run.Entry.TheVariants.{Commit, Snapshot}
 use Rattle.fcp_model.specs.declared.names.Sym.{Sym}
-use Rattle.fcp_model.specs.Places.{Variable, made, own, placed}
+use Rattle.fcp_model.specs.Places.{Variable, made, own}
 use Rattle.fcp_model.specs.Terms.{Term, var, rename, settle, Bindings}
 use Rattle.fcp_model.specs.Expressions.{Expr, leaf, op}
 use Rattle.fcp_model.specs.Programs.{Goal, user, true', unifies, assigns, Program}
@@ -13,8 +13,8 @@ use Rattle.fcp_model.specs.States.{Process, State, is_finished}
 use Rattle.fcp_model.specs.Events.{Event}
 use Rattle.fcp_model.specs.Runs.{last_state}
 use Rattle.fcp_model.specs.Spelling.{Bytes, name_at, place_text, process_text}
-use Rattle.fcp_model.specs.LogText.{both_texts, bindings_text, woken_text, entry_text, event_line, event_lines, log_text}
-use Rattle.fcp_model.specs.ReportText.{outcome_word, variable_line, variable_lines, not_reached_lines, operator_text, expr_text, operand_text, more_arguments, arguments_text, procedure_name, goal_text, status_text, process_line, process_lines, snapshot_text, snapshots_at, snapshot_texts, report_text}
+use Rattle.fcp_model.specs.LogText.{both_texts, bound_places_text, woken_text, entry_text, event_line, event_lines, log_head, log_text}
+use Rattle.fcp_model.specs.ReportText.{NamedTerm, outcome_word, variable_line, variable_lines, not_reached_lines, operator_text, expr_text, operand_text, more_arguments, arguments_text, procedure_text, goal_text, status_text, process_line, process_lines, snapshot_text, snapshots_at, snapshot_texts, report_text}
 use Rattle.fcp_model.proofs.MoreSteps.{Refines, Grows}
 use Rattle.fcp_model.proofs.OneDecision.{option_map_more}
 use Rattle.fcp_laws.proofs.MoreTextSteps.{cut_more}
@@ -36,7 +36,7 @@ live_more false o o' r r' h i = both_more o o' r r' h i
 
 module _ (names : List Bytes) where
   -- the log
-  bindings_more : (bound : Bindings) (entry : ℕ) (bs : Bindings) → Grows (λ n. bindings_text n names bound entry bs)
+  bindings_more : (bound : Bindings) (entry : ℕ) (bs : Bindings) → Grows (λ n. bound_places_text n names bound entry bs)
   bindings_more bound entry [] n = λ x e. e
   bindings_more bound entry ((made p, t) ∷ bs) n =
       both_more _ _ _ _ (option_map_more (λ x. codes " " ++ place_text p ++ codes "=" ++ x) _ _ (cut_more names bound 64 (rename (settle entry) t) n)) (bindings_more bound entry bs n)
@@ -55,18 +55,18 @@ module _ (names : List Bytes) where
   event_lines_more [] n = λ x e. e
   event_lines_more (ev ∷ evs) n = both_more _ _ _ _ (event_line_more ev n) (event_lines_more evs n)
 
-  log_more : (evs : List Event) → Grows (λ n. log_text n names evs)
-  log_more evs n = option_map_more (λ x. codes "logix log 1\n" ++ x ++ codes "end " ++ decimal (length evs) ++ codes "\n") _ _ (event_lines_more evs n)
+  log_more : (head : Bytes) (last : ℕ) (evs : List Event) → Grows (λ n. log_text n names head last evs)
+  log_more head last evs n = option_map_more (λ x. head ++ x ++ codes "end " ++ decimal last ++ codes "\n") _ _ (event_lines_more evs n)
 
   -- the lines of variables and of processes
   module _ (bound : Bindings) where
-    variable_more : (k : ℕ) (v : Option Sym) → Grows (λ n. variable_line n names bound k v)
-    variable_more k None n = λ x e. e
-    variable_more k (Some name) n = option_map_more (λ x. name_at names name.0 ++ codes " = " ++ x ++ codes "\n") _ _ (cut_more names bound 65536 (var (placed 0 k)) n)
+    variable_more : (v : Option Sym) (t : Term Variable) → Grows (λ n. variable_line n names bound v t)
+    variable_more None t n = λ x e. e
+    variable_more (Some name) t n = option_map_more (λ x. name_at names name.0 ++ codes " = " ++ x ++ codes "\n") _ _ (cut_more names bound 65536 t n)
 
-    variables_more : (k : ℕ) (vs : List (Option Sym)) → Grows (λ n. variable_lines n names bound k vs)
-    variables_more k [] n = λ x e. e
-    variables_more k (v ∷ vs) n = both_more _ _ _ _ (variable_more k v n) (variables_more (k + 1) vs n)
+    variables_more : (vs : List NamedTerm) → Grows (λ n. variable_lines n names bound vs)
+    variables_more [] n = λ x e. e
+    variables_more (v ∷ vs) n = both_more _ _ _ _ (variable_more v.0 v.1 n) (variables_more vs n)
 
     operand_more : (x : Expr Variable) → Grows (λ n. operand_text n names bound x)
     operand_more (leaf t) n = cut_more names bound 1024 t n
@@ -88,7 +88,7 @@ module _ (names : List Bytes) where
         both_more _ _ _ _ (option_map_more (λ x. codes "(" ++ x) _ _ (cut_more names bound 1024 t n)) (option_map_more (λ x. x ++ codes ")") _ _ (other_arguments_more ts n))
 
     goal_more : (m : Program) (g : Goal Variable) → Grows (λ n. goal_text n names m bound g)
-    goal_more m (user p ts) n = option_map_more (λ x. procedure_name names m p ++ x) _ _ (arguments_more ts n)
+    goal_more m (user p ts) n = option_map_more (λ x. procedure_text names m p ++ x) _ _ (arguments_more ts n)
     goal_more m true' n = λ x e. e
     goal_more m (unifies t u) n = both_more _ _ _ _ (cut_more names bound 1024 t n) (option_map_more (λ x. codes " = " ++ x) _ _ (cut_more names bound 1024 u n))
     goal_more m (assigns t y) n = both_more _ _ _ _ (cut_more names bound 1024 t n) (option_map_more (λ x. codes " := " ++ x) _ _ (expr_more y n))
@@ -101,11 +101,11 @@ module _ (names : List Bytes) where
     processes_more m (p ∷ ps) n = live_more (is_finished p.status) _ _ _ _ (process_more m p n) (processes_more m ps n)
 
   -- snapshots and the report
-  module _ (variables : List (Option Sym)) (m : Program) where
+  module _ (variables : List NamedTerm) (m : Program) where
     snapshot_more : (s : State) → Grows (λ n. snapshot_text n names variables m s)
     snapshot_more s n =
         both_more _ _ _ _ (known (Some (codes "snapshot " ++ decimal s.entries ++ codes "\n")))
-        (both_more _ _ _ _ (variables_more s.bound 1 variables n) (both_more _ _ _ _ (processes_more s.bound m s.processes n) (known (Some (codes "done\n")))))
+        (both_more _ _ _ _ (variables_more s.bound variables n) (both_more _ _ _ _ (processes_more s.bound m s.processes n) (known (Some (codes "done\n")))))
 
     entry_snapshot_more : (s : State) (en : Entry) → Grows (λ n. snapshots_at n names variables m s en)
     entry_snapshot_more s Snapshot n = snapshot_more s n
@@ -118,7 +118,7 @@ module _ (names : List Bytes) where
     -- one step more keeps a report
     pub report_more : (s : State) (evs : List Event) (o : Outcome) (controls : List Control) (reached : ℕ) → Grows (λ n. report_text n names variables m s evs o controls reached)
     report_more s evs o controls reached n =
-        both_more _ _ _ _ (log_more evs n)
+        both_more _ _ _ _ (log_more log_head (last_state s evs).entries evs n)
         (both_more _ _ _ _ (known (Some (codes "outcome " ++ outcome_word o ++ codes "\n")))
-        (both_more _ _ _ _ (variables_more (last_state s evs).bound 1 variables n)
+        (both_more _ _ _ _ (variables_more (last_state s evs).bound variables n)
         (both_more _ _ _ _ (known (Some (not_reached_lines (drop reached controls)))) (snapshots_more evs n))))

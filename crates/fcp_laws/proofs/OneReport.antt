@@ -12,11 +12,11 @@ use Rattle.fcp_model.specs.States.{State, Mode, is_open, is_held, is_failed, is_
 use Rattle.fcp_model.specs.Events.{Event}
 use Rattle.fcp_model.specs.Runs.{last_state, entries_of, cells_of}
 use Rattle.fcp_model.specs.Bounds.{commits_in, moves_in}
-use Rattle.fcp_model.specs.OneWorker.{Stand}
+use Rattle.fcp_model.specs.OneWorker.{Schedule}
 use Rattle.fcp_model.specs.Outcomes.{AllTooLarge, Ends}
 use Rattle.fcp_model.specs.Spelling.{Bytes}
-use Rattle.fcp_model.specs.ReportText.{report_text}
-use Rattle.fcp_model.specs.Reports.{IsReport}
+use Rattle.fcp_model.specs.ReportText.{NamedTerm, report_text}
+use Rattle.fcp_model.specs.Reports.{IsOneWorkerReport}
 use Rattle.fcp_laws.proofs.DeterminedRuns.{once, one_run}
 use Rattle.fcp_laws.proofs.MoreReportSteps.{report_more}
 
@@ -49,20 +49,20 @@ one_outcome m limits s evs o o' e e' =
     e e'
 
 -- both reports are of one run, and both are its text in as many steps as the two together
-pub one_report : (m : Program) (s : State) (limits : Limits) (controls : List Control) (names : List Bytes) (variables : List (Option Sym)) (o o' : Outcome) (bytes bytes' : Bytes)
-    → IsReport m s limits controls names variables o bytes → IsReport m s limits controls names variables o' bytes' → (o ≡ o') × (bytes ≡ bytes')
+pub one_report : (m : Program) (s : State) (limits : Limits) (controls : List Control) (names : List Bytes) (variables : List NamedTerm) (o o' : Outcome) (bytes bytes' : Bytes)
+    → IsOneWorkerReport m s limits controls names variables o bytes → IsOneWorkerReport m s limits controls names variables o' bytes' → (o ≡ o') × (bytes ≡ bytes')
 one_report m s limits controls names variables o o' bytes bytes' r r' =
     let (events, last) = one_run m limits s controls r.events r'.events r.last r'.last r.run r'.run in
     let outcome : o ≡ o' = one_outcome m limits s r'.events o o' (subst (λ evs. Ends m limits s evs o) events r.outcome) r'.outcome in
     (outcome, once (λ n. text n r'.events o' r'.last) (report_more names variables m s r'.events o' controls (reached r'.last)) r.steps r'.steps bytes bytes' (moved events outcome last) r'.text)
   where
-    reached : Stand → ℕ
+    reached : Schedule → ℕ
     reached to = length controls - length to.controls
 
-    text : ℕ → List Event → Outcome → Stand → Option Bytes
+    text : ℕ → List Event → Outcome → Schedule → Option Bytes
     text n evs u to = report_text n names variables m s evs u controls (reached to)
 
-    -- the first report's text, said of the second one's events, outcome and stand
+    -- the first report's text, said of the second one's events, outcome and schedule
     moved : r.events ≡ r'.events → o ≡ o' → r.last ≡ r'.last → text r.steps r'.events o' r'.last ≡ Some bytes
     moved events outcome last =
         subst (λ evs. text r.steps evs o' r'.last ≡ Some bytes) events

@@ -14,13 +14,15 @@ use Rattle.fcp_model.specs.States.{State, is_ready, is_open, start}
 use Rattle.fcp_model.specs.Events.{Event}
 use Rattle.fcp_model.specs.Runs.{IsRun, last_state, entries_of, cells_of}
 use Rattle.fcp_model.specs.Bounds.{IsWithin, KeepsControls, commits_in, moves_in}
-use Rattle.fcp_model.specs.OneWorker.{Stand, is_over, begin, Leads, IsOneWorkerRun}
+use Rattle.fcp_model.specs.OneWorker.{Schedule, is_over, begin, Leads, IsOneWorkerRun}
 use Rattle.fcp_model.specs.Outcomes.{Ends}
-use Rattle.fcp_model.specs.Endings.{outcome_at}
-use Rattle.fcp_model.specs.Stands.{IsOrdered, IsSoundStand}
+use Rattle.fcp_laws.specs.Endings.{outcome_at}
+use Rattle.fcp_model.specs.LawfulStates.{IsOrdered}
+use Rattle.fcp_laws.specs.Schedules.{IsSoundSchedule}
 use Rattle.fcp_model.specs.Spelling.{Bytes}
-use Rattle.fcp_model.specs.Reports.{IsReport}
-use Rattle.fcp_laws.specs.LawfulControls.{AreLawful}
+use Rattle.fcp_model.specs.ReportText.{NamedTerm}
+use Rattle.fcp_model.specs.Reports.{IsOneWorkerReport}
+use Rattle.fcp_model.specs.LawfulControls.{AreLawful}
 
 -- one decision is made for a goal over a map
 abbrev pub AGoalHasOneDecision : Type 0
@@ -32,23 +34,23 @@ ALogHasOneHistory = (m : Program) (s : State) (log : List Entry) (evs evs' : Lis
 
 -- one worker makes one run under limits and controls
 abbrev pub OneWorkerMakesOneRun : Type 0
-OneWorkerMakesOneRun = (m : Program) (limits : Limits) (s : State) (controls : List Control) (evs evs' : List Event) (at at' : Stand) → IsOneWorkerRun m limits s controls evs at → IsOneWorkerRun m limits s controls evs' at' → (evs ≡ evs') × (at ≡ at')
+OneWorkerMakesOneRun = (m : Program) (limits : Limits) (s : State) (controls : List Control) (evs evs' : List Event) (at at' : Schedule) → IsOneWorkerRun m limits s controls evs at → IsOneWorkerRun m limits s controls evs' at' → (evs ≡ evs') × (at ≡ at')
 
--- a goal's first state is ordered, and each stand to which a run from an ordered state comes is sound
+-- a goal's first state is ordered, and each schedule to which a run from an ordered state comes is sound
 abbrev pub AStartIsOrdered : Type 0
 AStartIsOrdered = (vars : ℕ) (gs : List (Goal ℕ)) → IsOrdered (start vars gs)
 
--- each stand to which a run from an ordered state comes is sound
-abbrev pub StandsAreSound : Type 0
-StandsAreSound = (m : Program) (limits : Limits) (s : State) (controls : List Control) (evs : List Event) (at : Stand) → IsOrdered s → Leads m limits (begin s controls) evs at → IsSoundStand at
+-- each schedule to which a run from an ordered state comes is sound
+abbrev pub SchedulesAreSound : Type 0
+SchedulesAreSound = (m : Program) (limits : Limits) (s : State) (controls : List Control) (evs : List Event) (at : Schedule) → IsOrdered s → Leads m limits (begin s controls) evs at → IsSoundSchedule at
 
 -- where a run that is not over has an empty queue, no process is Ready
 abbrev pub AnEmptyQueueLeavesNoneReady : Type 0
-AnEmptyQueueLeavesNoneReady = (at : Stand) → IsSoundStand at → is_over at.state.mode ≡ false → at.queue ≡ [] → list_any (λ p. is_ready p.status) at.state.processes ≡ false
+AnEmptyQueueLeavesNoneReady = (at : Schedule) → IsSoundSchedule at → is_over at.state.mode ≡ false → at.queue ≡ [] → list_any (λ p. is_ready p.status) at.state.processes ≡ false
 
 -- What the run of one worker is by the definitions of runs: its log is a run within the limits in which the controls are
 -- kept, and where it stands in the end is the last state, with the log's counts.
-pub record IsLawfulRun (m : Program) (limits : Limits) (s : State) (controls : List Control) (evs : List Event) (at : Stand) : Type 0 where
+pub record IsLawfulRun (m : Program) (limits : Limits) (s : State) (controls : List Control) (evs : List Event) (at : Schedule) : Type 0 where
   pub legal : IsRun m s (entries_of evs) evs
   pub last : last_state s evs ≡ at.state
   pub within : IsWithin limits evs
@@ -59,13 +61,13 @@ pub record IsLawfulRun (m : Program) (limits : Limits) (s : State) (controls : L
 
 -- a run of one worker is a run by the definitions
 abbrev pub OneWorkerRunsAreRuns : Type 0
-OneWorkerRunsAreRuns = (m : Program) (limits : Limits) (s : State) (controls : List Control) (evs : List Event) (at : Stand) → IsOrdered s → s.mode ≡ is_open → AreLawful controls → IsOneWorkerRun m limits s controls evs at → IsLawfulRun m limits s controls evs at
+OneWorkerRunsAreRuns = (m : Program) (limits : Limits) (s : State) (controls : List Control) (evs : List Event) (at : Schedule) → IsOrdered s → s.mode ≡ is_open → AreLawful controls → IsOneWorkerRun m limits s controls evs at → IsLawfulRun m limits s controls evs at
 
 -- a run of one worker ends with the outcome that is read off where it stands
 abbrev pub OneWorkerRunsEnd : Type 0
-OneWorkerRunsEnd = (m : Program) (limits : Limits) (s : State) (controls : List Control) (evs : List Event) (at : Stand) → IsOrdered s → s.mode ≡ is_open → IsOneWorkerRun m limits s controls evs at → Ends m limits s evs (outcome_at limits at)
+OneWorkerRunsEnd = (m : Program) (limits : Limits) (s : State) (controls : List Control) (evs : List Event) (at : Schedule) → IsOrdered s → s.mode ≡ is_open → IsOneWorkerRun m limits s controls evs at → Ends m limits s evs (outcome_at limits at)
 
 -- at most one report, with one outcome, is made from a state under limits and controls
 abbrev pub ARunHasOneReport : Type 0
-ARunHasOneReport = (m : Program) (s : State) (limits : Limits) (controls : List Control) (names : List Bytes) (variables : List (Option Sym)) (o o' : Outcome) (bytes bytes' : Bytes)
-    → IsReport m s limits controls names variables o bytes → IsReport m s limits controls names variables o' bytes' → (o ≡ o') × (bytes ≡ bytes')
+ARunHasOneReport = (m : Program) (s : State) (limits : Limits) (controls : List Control) (names : List Bytes) (variables : List NamedTerm) (o o' : Outcome) (bytes bytes' : Bytes)
+    → IsOneWorkerReport m s limits controls names variables o bytes → IsOneWorkerReport m s limits controls names variables o' bytes' → (o ≡ o') × (bytes ≡ bytes')

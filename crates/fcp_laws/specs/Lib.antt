@@ -1,2 +1,4 @@
-pub mod LawfulControls
+pub mod Endings
 pub mod Laws
+pub mod Schedules
+pub mod WaitingProcesses

@@ -1,7 +1,7 @@
 //! Laws of the definitions of Flat Concurrent Prolog's runs. Each function does nothing: its contract is the law.
 #![tactic(auto)]
 
-ghost use Rattle.fcp_laws.specs.Laws.{AGoalHasOneDecision, ALogHasOneHistory, OneWorkerMakesOneRun, AStartIsOrdered, StandsAreSound, AnEmptyQueueLeavesNoneReady, OneWorkerRunsAreRuns, OneWorkerRunsEnd, ARunHasOneReport};
+ghost use Rattle.fcp_laws.specs.Laws.{AGoalHasOneDecision, ALogHasOneHistory, OneWorkerMakesOneRun, AStartIsOrdered, SchedulesAreSound, AnEmptyQueueLeavesNoneReady, OneWorkerRunsAreRuns, OneWorkerRunsEnd, ARunHasOneReport};
 
 /// One decision is made for a goal over a map.
 pub fn decisions()
@@ -15,9 +15,9 @@ pub fn determined_runs()
 {}
 
 /// Wherever a run of one worker stands, its queue holds the Ready processes of its state.
-pub fn sound_stands()
+pub fn sound_schedules()
     ensures start { AStartIsOrdered }
-    ensures stands { StandsAreSound }
+    ensures stands { SchedulesAreSound }
     ensures none_ready { AnEmptyQueueLeavesNoneReady }
 {}
 

@@ -10,7 +10,7 @@ use Rattle.fcp_model.specs.declared.source.Item.{Item}
 use Rattle.fcp_model.specs.declared.source.Module.{Module}
 use Rattle.fcp_model.specs.declared.source.GoalText.{GoalText}
 use Rattle.fcp_model.specs.Goals.{number_of_item}
-use Rattle.fcp_model.specs.Heads.{head_of}
+use Rattle.fcp_model.specs.ProcedureNames.{procedure_name}
 use Rattle.fcp_loader.specs.Checks.{fault_of, text_fault, call_fault, items_fault}
 use Rattle.fcp_loader.specs.Faults.{faults_at, reserved_heads, unknown_tests, unknown_in_bodies, unknown_items, unknown_exports, is_unknown_export, leaves_of_clauses, places_where, is_hidden, faults_of, goal_faults_of}
 use Rattle.fcp_loader.specs.Firsts.{first_of}
@@ -60,7 +60,7 @@ module _ (m : Module) where
       (behind attributes names _ _
       (first_at UnknownAttribute (option_to_list m.other) m.other (first_of-option m.other))
       (first_at RepeatedModule (option_to_list m.again) m.again (first_of-option m.again)))
-      (first_at Reserved (reserved_heads m.clauses) _ (first_place (λ c. c.at) (λ c. is_reserved (head_of c)) m.clauses)))
+      (first_at Reserved (reserved_heads m.clauses) _ (first_place (λ c. c.at) (λ c. is_reserved (procedure_name c)) m.clauses)))
       (first_at UnknownTest (unknown_tests m.clauses) _ (first_place (λ i. i.at) (λ i. not (is_test i.call)) (flat_map (λ c. c.guard) m.clauses)))
 
   first-bodies : first_of bodies ≡ option_map (fault_of UnknownProcedure) (option_map (λ i. i.at) (find (λ i. is_none (number_of_item m i)) (flat_map (λ c. c.body) m.clauses)))

@@ -8,7 +8,7 @@ use Rattle.fcp_model.specs.declared.fault.Fault.{Fault}
 use Rattle.fcp_model.specs.declared.source.Item.{Item}
 use Rattle.fcp_model.specs.declared.source.Module.{Module}
 use Rattle.fcp_model.specs.Goals.{number_of_item}
-use Rattle.fcp_model.specs.Heads.{head_of}
+use Rattle.fcp_model.specs.ProcedureNames.{procedure_name}
 use Rattle.fcp_loader.specs.Faults.{is_unknown_export, is_hidden, leaves_of_clauses}
 use Rattle.fcp_loader.specs.Firsts.{first_of}
 use Rattle.fcp_loader.specs.Leaves.{leaves_in}
@@ -24,7 +24,7 @@ text_fault m =
     option_or (option_or (option_or
     (option_map (fault_of UnknownAttribute) m.other)
     (option_map (fault_of RepeatedModule) m.again))
-    (option_map (fault_of Reserved) (option_map (λ c. c.at) (find (λ c. is_reserved (head_of c)) m.clauses))))
+    (option_map (fault_of Reserved) (option_map (λ c. c.at) (find (λ c. is_reserved (procedure_name c)) m.clauses))))
     (option_map (fault_of UnknownTest) (option_map (λ i. i.at) (find (λ i. not (is_test i.call)) (flat_map (λ c. c.guard) m.clauses))))
 
 -- of the other kinds

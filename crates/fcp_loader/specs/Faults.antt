@@ -5,7 +5,7 @@ use Rattle.std.specs.Option.{option_to_list, option_map_or}
 use Rattle.fcp_model.specs.declared.fault.Code.{Code}
 use Rattle.fcp_model.specs.declared.fault.Code.TheVariants.{UnknownAttribute, RepeatedModule, Reserved, UnknownTest, UnknownProcedure, ExportUnknown, BadExpression, NotExported}
 use Rattle.fcp_model.specs.declared.fault.Fault.{Fault}
-use Rattle.fcp_model.specs.declared.loaded.Head.{Head}
+use Rattle.fcp_model.specs.declared.loaded.ProcedureName.{ProcedureName}
 use Rattle.fcp_model.specs.declared.source.Call.{Call}
 use Rattle.fcp_model.specs.declared.source.Call.TheVariants.{User, Unify, Assign, Same, NotSame, Compare}
 use Rattle.fcp_model.specs.declared.source.Clause.{Clause}
@@ -15,7 +15,7 @@ use Rattle.fcp_model.specs.declared.source.Module.{Module}
 use Rattle.fcp_model.specs.declared.source.GoalText.{GoalText}
 use Rattle.fcp_model.specs.FirstForm.{is_true}
 use Rattle.fcp_model.specs.Goals.{number_of_item}
-use Rattle.fcp_model.specs.Heads.{heads_in, head_of, same_head, is_exported}
+use Rattle.fcp_model.specs.ProcedureNames.{procedure_names, procedure_name, same_procedure, is_exported}
 use Rattle.fcp_loader.specs.Leaves.{leaves_in}
 use Rattle.fcp_loader.specs.TestItems.{is_reserved, is_test}
 
@@ -29,7 +29,7 @@ places_where picks items = map (λ i. i.at) (filter picks items)
 
 -- the heads that are reserved
 abbrev pub reserved_heads : List Clause → List ℕ
-reserved_heads cs = map (λ c. c.at) (filter (λ c. is_reserved (head_of c)) cs)
+reserved_heads cs = map (λ c. c.at) (filter (λ c. is_reserved (procedure_name c)) cs)
 
 -- the items of guards that are no tests
 abbrev pub unknown_tests : List Clause → List ℕ
@@ -45,7 +45,7 @@ unknown_in_bodies m = unknown_items m (flat_map (λ c. c.body) m.clauses)
 
 -- the element of an `-export` names no procedure of the module
 abbrev pub is_unknown_export : Module → Export → Bool
-is_unknown_export m e = is_none (position (same_head (record { name = e.name; arity = e.arity })) (heads_in m.clauses))
+is_unknown_export m e = is_none (position (same_procedure (record { name = e.name; arity = e.arity })) (procedure_names m.clauses))
 
 -- the elements of an `-export` that name no procedure
 abbrev pub unknown_exports : Module → List ℕ
@@ -67,9 +67,9 @@ faults_of m =
     ++ faults_at BadExpression (leaves_of_clauses m.clauses)
 
 -- the procedure of the module that a call is of: `true` with no argument, `=`, `:=` and the tests are of none
-abbrev pub procedure_called : Module → Call → Option Head
+abbrev pub procedure_called : Module → Call → Option ProcedureName
 procedure_called m (User name args) =
-    if is_true name.0 (length args) then None else find (same_head (record { name = name; arity = length args })) (heads_in m.clauses)
+    if is_true name.0 (length args) then None else find (same_procedure (record { name = name; arity = length args })) (procedure_names m.clauses)
 procedure_called m (Unify a b) = None
 procedure_called m (Assign a e) = None
 procedure_called m (Same a b) = None

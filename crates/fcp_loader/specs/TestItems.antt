@@ -1,11 +1,11 @@
 -- Which heads are reserved, and which items are tests.
 use Rattle.std.specs.Prelude.{Bool, true, false, ◌&&◌, ◌||◌, nat_eq, nat_lt, nat_le, length}
-use Rattle.fcp_model.specs.declared.loaded.Head.{Head}
+use Rattle.fcp_model.specs.declared.loaded.ProcedureName.{ProcedureName}
 use Rattle.fcp_model.specs.declared.source.Call.{Call}
 use Rattle.fcp_model.specs.declared.source.Call.TheVariants.{User, Unify, Assign, Same, NotSame, Compare}
 
 -- the names 0 and 1, `true` and `otherwise`, with no argument, and the names 2 to 8, from `integer` to `unknown`, with one
-abbrev pub is_reserved : Head → Bool
+abbrev pub is_reserved : ProcedureName → Bool
 is_reserved h = (nat_lt h.name.0 2 && nat_eq h.arity 0) || (nat_le 2 h.name.0 && nat_lt h.name.0 9 && nat_eq h.arity 1)
 
 -- a reserved name with its number of arguments, `==`, `\==` or a comparison

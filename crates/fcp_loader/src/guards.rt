@@ -1,7 +1,7 @@
 //! Heads that are reserved, and items of guards that are no tests.
 ghost use Rattle.std.specs.Prelude.{◌≡◌, find, not, option_map};
 ghost use Rattle.std.specs.List.{flat_map};
-ghost use Rattle.fcp_model.specs.Heads.{head_of};
+ghost use Rattle.fcp_model.specs.ProcedureNames.{procedure_name};
 ghost use Rattle.fcp_loader.specs.TestItems as spec;
 
 use fcp_model::{Call, Clause, Sym};
@@ -26,7 +26,7 @@ fn is_test(call: &Call) -> bool
 
 /// The place of the first clause whose head is reserved.
 pub fn reserved_head(clauses: &[Clause]) -> Option<u32>
-    ensures { result ≡ option_map (λ c. c.at) (find (λ c. spec.is_reserved (head_of c)) clauses.now) }
+    ensures { result ≡ option_map (λ c. c.at) (find (λ c. spec.is_reserved (procedure_name c)) clauses.now) }
 {
     clauses
         .iter()

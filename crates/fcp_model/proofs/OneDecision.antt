@@ -1,5 +1,5 @@
 -- A goal has one decision: more steps change no answer of tests, trials and decisions.
-use Rattle.std.proofs.Common.{◌≡◌, ℕ, zero, suc, ◌+◌, Bool, true, false, List, [], ◌∷◌, ◌++◌, Option, Some, None, refl, arith}
+use Rattle.std.proofs.Common.{◌≡◌, ℕ, zero, suc, ◌+◌, Bool, true, false, List, [], ◌∷◌, ◌++◌, length, Option, Some, None, refl, arith}
 use Rattle.std.specs.Prelude.{ℤ, option_map}
 use Rattle.fcp_model.specs.declared.term.CompareOp.{CompareOp}
 use Rattle.fcp_model.specs.Places.{Variable, own}
@@ -105,7 +105,7 @@ assign_on_more f g h (Some bad) v' i = λ x e. rw (i _ refl) e
 assign_on_more f g h (Some (unready rs)) v' i = λ x e. rw (i _ refl) e
 
 pub decide_more : (m : Program) (s : Bindings) (g : Goal Variable) → Grows (λ n. decide n m s g)
-decide_more m s (user p args) n = choose_more s args n 1 true [] (clauses_of m p)
+decide_more m s (user p args) n = choose_more s args n 1 true [] (clauses_of m p (length args))
 decide_more m s true' n = λ x e. e
 decide_more m s (unifies t u) n = option_map_more (built_in []) _ _ (unify_more s n [] [] ((t, u) ∷ []))
 decide_more m s (assigns t x) n = assign_on_more _ _ (λ z. option_map_more (built_in []) _ _ (unify_more s n [] [] ((t, number z) ∷ []))) _ _ (eval_more s x n)

@@ -40,7 +40,7 @@ clause_cells c = 2 * c.vars + sum_by term_cells c.args + sum_by goal_cells c.bod
 
 -- the clause by which a goal commits, numbered from 1; a built-in process has none
 abbrev pub clause_used : Program → Goal Variable → ℕ → Option Clause
-clause_used m (user p args) (suc k) = slice_get (clauses_of m p) k
+clause_used m (user p args) (suc k) = slice_get (clauses_of m p (length args)) k
 clause_used m (user p args) zero = None
 clause_used m true' k = None
 clause_used m (unifies t u) k = None

@@ -1,5 +1,5 @@
 -- What is decided for a goal.
-use Rattle.std.specs.Prelude.{◌≡◌, ℕ, suc, Bool, true, false, List, [], ◌∷◌, ◌++◌, Option, Some, None, if◌then◌else◌, ℤ, option_map}
+use Rattle.std.specs.Prelude.{◌≡◌, ℕ, suc, Bool, true, false, List, [], ◌∷◌, ◌++◌, length, Option, Some, None, if◌then◌else◌, ℤ, option_map}
 use Rattle.fcp_model.specs.Places.{Variable}
 use Rattle.fcp_model.specs.Terms.{Term, number, Bindings}
 use Rattle.fcp_model.specs.Unification.{Ended, done, clash, wait, unify}
@@ -42,7 +42,7 @@ assign_on go (Some (unready rs)) = Some (waits_on rs)
 
 -- what is decided for a goal over the map s, or None where n steps are too few
 abbrev pub decide : ℕ → Program → Bindings → Goal Variable → Option Decision
-decide n m s (user p args) = choose n s args 1 true [] (clauses_of m p)
+decide n m s (user p args) = choose n s args 1 true [] (clauses_of m p (length args))
 decide n m s true' = Some (commits 0 [] [])
 decide n m s (unifies t u) = option_map (built_in []) (unify n s [] [] ((t, u) ∷ []))
 decide n m s (assigns t e) = assign_on (λ z. option_map (built_in []) (unify n s [] [] ((t, number z) ∷ []))) (eval n s e)

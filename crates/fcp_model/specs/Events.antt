@@ -12,7 +12,7 @@ use Rattle.fcp_model.specs.States.{Status, ready, waiting, finished, Process, Mo
 use Rattle.fcp_model.specs.Cells.{clause_used, cells}
 
 -- An entry between the states before and after it, with what it did: the bindings as the try made them, the waiting
--- set, the processes that it made and woke, each Ready, by name, and its cells.
+-- set, the processes that it made, which are Ready, those that it woke, by name and as they waited, and its cells.
 pub record Event : Type 0 where
   pub before : State
   pub entry : Entry
@@ -46,9 +46,9 @@ made_ready p = record p { status = ready }
 abbrev pub wake : Bindings → Process → Process
 wake bs p = if is_woken bs p.status then made_ready p else p
 
--- the processes that the bindings wake
+-- the processes that the bindings wake, as they waited
 abbrev pub woken_by : Bindings → List Process → List Process
-woken_by bs ps = map made_ready (filter (λ p. is_woken bs p.status) ps)
+woken_by bs ps = filter (λ p. is_woken bs p.status) ps
 
 -- the process of that name with another status
 abbrev pub with_status : Proc → Status → Process → Process

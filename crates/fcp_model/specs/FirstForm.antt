@@ -9,8 +9,8 @@ use Rattle.fcp_model.specs.declared.source.Item.{Item}
 use Rattle.fcp_model.specs.declared.source.Clause.{Clause}
 use Rattle.fcp_model.specs.declared.source.Module.{Module}
 use Rattle.fcp_model.specs.declared.source.GoalText.{GoalText}
-use Rattle.fcp_model.specs.declared.loaded.Head.{Head}
-use Rattle.fcp_model.specs.Heads.{heads_in, same_head}
+use Rattle.fcp_model.specs.declared.loaded.ProcedureName.{ProcedureName}
+use Rattle.fcp_model.specs.ProcedureNames.{procedure_names, same_procedure}
 
 -- a string, or an occurrence of one of the variables
 abbrev pub flat_step : ℕ → Term-F Bool → Bool
@@ -65,8 +65,8 @@ abbrev pub is_true : ℕ → ℕ → Bool
 is_true name arity = nat_eq name 0 && nat_eq arity 0
 
 -- the item calls a procedure that has a clause
-abbrev pub is_called : List Head → Call → Bool
-is_called hs (User name args) = not (is_true name.0 (length args)) && list_any (same_head (record { name = name; arity = length args })) hs
+abbrev pub is_called : List ProcedureName → Call → Bool
+is_called hs (User name args) = not (is_true name.0 (length args)) && list_any (same_procedure (record { name = name; arity = length args })) hs
 is_called hs (Unify a b) = false
 is_called hs (Assign a e) = false
 is_called hs (Same a b) = false
@@ -74,13 +74,13 @@ is_called hs (NotSame a b) = false
 is_called hs (Compare o a b) = false
 
 -- each item calls a procedure that has a clause
-abbrev pub are_called : List Head → List Item → Bool
+abbrev pub are_called : List ProcedureName → List Item → Bool
 are_called hs is = list_all (λ i. is_called hs i.call) is
 
 -- each item of each body calls a procedure of the module
 abbrev pub bodies_called : Module → Bool
-bodies_called m = list_all (λ c. are_called (heads_in m.clauses) c.body) m.clauses
+bodies_called m = list_all (λ c. are_called (procedure_names m.clauses) c.body) m.clauses
 
 -- each item of the goal does
 abbrev pub goal_called : Module → GoalText → Bool
-goal_called m g = are_called (heads_in m.clauses) g.items
+goal_called m g = are_called (procedure_names m.clauses) g.items

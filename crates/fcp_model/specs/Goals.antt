@@ -4,16 +4,27 @@ use Rattle.fcp_model.specs.declared.source.Call.{Call}
 use Rattle.fcp_model.specs.declared.source.Call.TheVariants.{User, Unify, Assign, Same, NotSame, Compare}
 use Rattle.fcp_model.specs.declared.source.Item.{Item}
 use Rattle.fcp_model.specs.declared.source.Module.{Module}
-use Rattle.fcp_model.specs.declared.goal.TheConstants.{TRUE_PROCEDURE, UNIFY_PROCEDURE, ASSIGN_PROCEDURE}
-use Rattle.fcp_model.specs.Heads.{heads_in, same_head}
+use Rattle.fcp_model.specs.ProcedureNames.{procedure_names, same_procedure}
+
+-- the numbers that stand for `true`, `=` and `:=` in place of a procedure's
+abbrev pub true_procedure : ℕ
+true_procedure = 4294967293
+
+-- of `=`
+abbrev pub unify_procedure : ℕ
+unify_procedure = 4294967294
+
+-- of `:=`
+abbrev pub assign_procedure : ℕ
+assign_procedure = 4294967295
 
 -- the number of the procedure that a call names, or `None` where a goal may not make the call.
 -- `true` with no argument, whose name is the first reserved one, goes before the module's procedures
 abbrev pub number_of_call : Module → Call → Option ℕ
 number_of_call m (User name args) =
-    if nat_eq name.0 0 && nat_eq (length args) 0 then Some TRUE_PROCEDURE else position (same_head (record { name = name; arity = length args })) (heads_in m.clauses)
-number_of_call m (Unify a b) = Some UNIFY_PROCEDURE
-number_of_call m (Assign a e) = Some ASSIGN_PROCEDURE
+    if nat_eq name.0 0 && nat_eq (length args) 0 then Some true_procedure else position (same_procedure (record { name = name; arity = length args })) (procedure_names m.clauses)
+number_of_call m (Unify a b) = Some unify_procedure
+number_of_call m (Assign a e) = Some assign_procedure
 number_of_call m (Same a b) = None
 number_of_call m (NotSame a b) = None
 number_of_call m (Compare op d e) = None

@@ -1,14 +1,16 @@
 pub mod Bounds
 pub mod Cells
+pub mod ClosedPrograms
 pub mod Codes
 pub mod Decisions
-pub mod Endings
 pub mod Events
 pub mod Expressions
 pub mod FirstForm
 pub mod Goals
 pub mod HeadPairs
-pub mod Heads
+pub mod LawfulControls
+pub mod LawfulStates
+pub mod ProcedureNames
 pub mod LogText
 pub mod NameList
 pub mod Occurs
@@ -18,11 +20,11 @@ pub mod Pair
 pub mod Places
 pub mod Programs
 pub mod Ranks
+pub mod Reads
 pub mod ReportText
 pub mod Reports
 pub mod Runs
 pub mod Spelling
-pub mod Stands
 pub mod States
 pub mod TermText
 pub mod Terms
@@ -31,5 +33,4 @@ pub mod Translation
 pub mod Trials
 pub mod Unification
 pub mod Value
-pub mod WaitingProcesses
 pub mod formers

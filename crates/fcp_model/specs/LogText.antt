@@ -19,12 +19,12 @@ both_texts (Some a) (Some b) = Some (a ++ b)
 
 -- one ` _a.b=TERM` for a binding of the try, the oldest binding first, with the term's value in the map `bound`, cut
 -- after 64 nodes; the clause's new variables are left out
-abbrev pub bindings_text : ℕ → List Bytes → Bindings → ℕ → Bindings → Option Bytes
-bindings_text n names bound entry [] = Some []
-bindings_text n names bound entry ((made p, t) ∷ bs) =
+abbrev pub bound_places_text : ℕ → List Bytes → Bindings → ℕ → Bindings → Option Bytes
+bound_places_text n names bound entry [] = Some []
+bound_places_text n names bound entry ((made p, t) ∷ bs) =
     both_texts (option_map (λ x. codes " " ++ place_text p ++ codes "=" ++ x) (cut_text n names bound 64 (rename (settle entry) t)))
-    (bindings_text n names bound entry bs)
-bindings_text n names bound entry ((own k, t) ∷ bs) = bindings_text n names bound entry bs
+    (bound_places_text n names bound entry bs)
+bound_places_text n names bound entry ((own k, t) ∷ bs) = bound_places_text n names bound entry bs
 
 -- processes by name, each behind a space
 abbrev pub processes_text : List Proc → Bytes
@@ -43,7 +43,7 @@ places_text ps = flat_map (λ p. codes " " ++ place_text p) ps
 abbrev pub entry_text : ℕ → List Bytes → Event → Entry → Option Bytes
 entry_text n names ev (Commit p k) =
     option_map (λ bs. codes "commit " ++ process_text p ++ codes " " ++ decimal k ++ bs ++ woken_text (map (λ p. p.name) ev.woken))
-    (bindings_text n names ev.after.bound ev.after.entries ev.bindings)
+    (bound_places_text n names ev.after.bound ev.after.entries ev.bindings)
 entry_text n names ev (Hang p) = Some (codes "hang " ++ process_text p ++ places_text ev.waits_for)
 entry_text n names ev (Fail p) = Some (codes "fail " ++ process_text p)
 entry_text n names ev Snapshot = Some (codes "snapshot")
@@ -60,6 +60,10 @@ abbrev pub event_lines : ℕ → List Bytes → List Event → Option Bytes
 event_lines n names [] = Some []
 event_lines n names (ev ∷ evs) = both_texts (event_line n names ev) (event_lines n names evs)
 
--- the head line, a line for each entry, and the end with their number
-abbrev pub log_text : ℕ → List Bytes → List Event → Option Bytes
-log_text n names evs = option_map (λ x. codes "logix log 1\n" ++ x ++ codes "end " ++ decimal (length evs) ++ codes "\n") (event_lines n names evs)
+-- the first line of a log that begins with a run
+abbrev pub log_head : Bytes
+log_head = codes "logix log 1\n"
+
+-- the first line, a line for each entry, and the end with the number of the last entry, or of the first state where there is none
+abbrev pub log_text : ℕ → List Bytes → Bytes → ℕ → List Event → Option Bytes
+log_text n names head last evs = option_map (λ x. head ++ x ++ codes "end " ++ decimal last ++ codes "\n") (event_lines n names evs)

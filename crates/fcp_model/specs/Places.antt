@@ -23,6 +23,10 @@ is_older_place p q = nat_lt p.entry q.entry || (nat_eq p.entry q.entry && nat_lt
 abbrev pub is_same_process : Proc → Proc → Bool
 is_same_process p q = nat_eq p.entry q.entry && nat_eq p.number q.number
 
+-- p is the older one: the earlier entry, then the smaller number
+abbrev pub is_older_process : Proc → Proc → Bool
+is_older_process p q = nat_lt p.entry q.entry || (nat_eq p.entry q.entry && nat_lt p.number q.number)
+
 -- a variable during a try: a place of the state, or the tried clause's variable k, which has no place yet
 pub data Variable : Type 0 where
   made : Place → Variable

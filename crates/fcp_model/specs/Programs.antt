@@ -1,5 +1,5 @@
 -- Programs: procedures, clauses and goals.
-use Rattle.std.specs.Prelude.{ℕ, List, [], map, Some, None, slice_get}
+use Rattle.std.specs.Prelude.{ℕ, List, [], map, Some, None, slice_get, nat_eq, if◌then◌else◌}
 use Rattle.fcp_model.specs.Terms.{Term, rename}
 use Rattle.fcp_model.specs.Expressions.{Expr, rename_expr}
 use Rattle.fcp_model.specs.Tests.{Test}
@@ -35,6 +35,7 @@ rename_goal f true' = true'
 rename_goal f (unifies t u) = unifies (rename f t) (rename f u)
 rename_goal f (assigns t e) = assigns (rename f t) (rename_expr f e)
 
--- the clauses of a procedure; a number that the program lacks has none
-abbrev pub clauses_of : Program → ℕ → List Clause
-clauses_of m p = elim (slice_get m p) [ None ↦ [] | Some d ↦ d.clauses ]
+-- the clauses for a call of a procedure with so many arguments: none where the program lacks the procedure, or where it
+-- has another number of arguments
+abbrev pub clauses_of : Program → ℕ → ℕ → List Clause
+clauses_of m p n = elim (slice_get m p) [ None ↦ [] | Some d ↦ if nat_eq d.arity n then d.clauses else [] ]

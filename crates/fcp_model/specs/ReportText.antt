@@ -19,7 +19,7 @@ use Rattle.fcp_model.specs.Events.{Event}
 use Rattle.fcp_model.specs.Runs.{last_state}
 use Rattle.fcp_model.specs.Spelling.{Bytes, string_text, name_at, process_text}
 use Rattle.fcp_model.specs.TermText.{cut_text}
-use Rattle.fcp_model.specs.LogText.{both_texts, log_text, places_text}
+use Rattle.fcp_model.specs.LogText.{both_texts, log_head, log_text, places_text}
 
 -- the word of an outcome
 abbrev pub outcome_word : Outcome → Bytes
@@ -31,15 +31,28 @@ outcome_word Suspended = codes "suspended"
 outcome_word Budget = codes "budget"
 outcome_word Full = codes "full"
 
--- `NAME = TERM` for a variable of the goal with a name, its value cut after 65,536 nodes
-abbrev pub variable_line : ℕ → List Bytes → Bindings → ℕ → Option Sym → Option Bytes
-variable_line n names bound k None = Some []
-variable_line n names bound k (Some name) = option_map (λ x. name_at names name.0 ++ codes " = " ++ x ++ codes "\n") (cut_text n names bound 65536 (var (placed 0 k)))
+-- a variable of the goal, by its name where it has one, with the term that stands for it; one whose name begins with `_` has none
+abbrev pub NamedTerm : Type 0
+NamedTerm = Option Sym × Term Variable
 
--- the lines of the goal's variables from the k-th on; a variable whose name begins with `_` has no name here
-abbrev pub variable_lines : ℕ → List Bytes → Bindings → ℕ → List (Option Sym) → Option Bytes
-variable_lines n names bound k [] = Some []
-variable_lines n names bound k (v ∷ vs) = both_texts (variable_line n names bound k v) (variable_lines n names bound (k + 1) vs)
+-- the goal's variables from the k-th on, each with its place
+abbrev pub named_from : ℕ → List (Option Sym) → List NamedTerm
+named_from k [] = []
+named_from k (v ∷ vs) = (v, var (placed 0 k)) ∷ named_from (k + 1) vs
+
+-- the variables of a goal with these names, from the first on
+abbrev pub goal_variables : List (Option Sym) → List NamedTerm
+goal_variables vs = named_from 1 vs
+
+-- `NAME = TERM` for a variable with a name, its value cut after 65,536 nodes
+abbrev pub variable_line : ℕ → List Bytes → Bindings → Option Sym → Term Variable → Option Bytes
+variable_line n names bound None t = Some []
+variable_line n names bound (Some name) t = option_map (λ x. name_at names name.0 ++ codes " = " ++ x ++ codes "\n") (cut_text n names bound 65536 t)
+
+-- the lines of the variables that have a name, in order
+abbrev pub variable_lines : ℕ → List Bytes → Bindings → List NamedTerm → Option Bytes
+variable_lines n names bound [] = Some []
+variable_lines n names bound (v ∷ vs) = both_texts (variable_line n names bound v.0 v.1) (variable_lines n names bound vs)
 
 -- the word of a control
 abbrev pub act_word : Act → Bytes
@@ -82,12 +95,12 @@ arguments_text n names s [] = Some []
 arguments_text n names s (t ∷ ts) = both_texts (option_map (λ x. codes "(" ++ x) (cut_text n names s 1024 t)) (option_map (λ x. x ++ codes ")") (more_arguments n names s ts))
 
 -- the name of a procedure
-abbrev pub procedure_name : List Bytes → Program → ℕ → Bytes
-procedure_name names m p = elim (slice_get m p) [ None ↦ [] | Some d ↦ string_text (name_at names d.name) ]
+abbrev pub procedure_text : List Bytes → Program → ℕ → Bytes
+procedure_text names m p = elim (slice_get m p) [ None ↦ [] | Some d ↦ string_text (name_at names d.name) ]
 
 -- a process's goal, each argument by value and cut after 1,024 nodes
 abbrev pub goal_text : ℕ → List Bytes → Program → Bindings → Goal Variable → Option Bytes
-goal_text n names m s (user p ts) = option_map (λ x. procedure_name names m p ++ x) (arguments_text n names s ts)
+goal_text n names m s (user p ts) = option_map (λ x. procedure_text names m p ++ x) (arguments_text n names s ts)
 goal_text n names m s true' = Some (codes "true")
 goal_text n names m s (unifies t u) = both_texts (cut_text n names s 1024 t) (option_map (λ x. codes " = " ++ x) (cut_text n names s 1024 u))
 goal_text n names m s (assigns t e) = both_texts (cut_text n names s 1024 t) (option_map (λ x. codes " := " ++ x) (expr_text n names s e))
@@ -111,28 +124,28 @@ process_lines n names m s (p ∷ ps) = elim (is_finished p.status) [
 ]
 
 -- the snapshot of a state
-abbrev pub snapshot_text : ℕ → List Bytes → List (Option Sym) → Program → State → Option Bytes
+abbrev pub snapshot_text : ℕ → List Bytes → List NamedTerm → Program → State → Option Bytes
 snapshot_text n names variables m s =
     both_texts (Some (codes "snapshot " ++ decimal s.entries ++ codes "\n"))
-    (both_texts (variable_lines n names s.bound 1 variables)
+    (both_texts (variable_lines n names s.bound variables)
     (both_texts (process_lines n names m s.bound s.processes) (Some (codes "done\n"))))
 
 -- a snapshot for each entry that asks for one, of the state after it
-abbrev pub snapshots_at : ℕ → List Bytes → List (Option Sym) → Program → State → Entry → Option Bytes
+abbrev pub snapshots_at : ℕ → List Bytes → List NamedTerm → Program → State → Entry → Option Bytes
 snapshots_at n names variables m s Snapshot = snapshot_text n names variables m s
 snapshots_at n names variables m s _ = Some []
 
 -- the snapshots of a run, in order
-abbrev pub snapshot_texts : ℕ → List Bytes → List (Option Sym) → Program → List Event → Option Bytes
+abbrev pub snapshot_texts : ℕ → List Bytes → List NamedTerm → Program → List Event → Option Bytes
 snapshot_texts n names variables m [] = Some []
 snapshot_texts n names variables m (ev ∷ evs) = both_texts (snapshots_at n names variables m ev.after ev.entry) (snapshot_texts n names variables m evs)
 
 -- the report of a run from a state: `names` are the numbered strings, `variables` the goal's variables, `reached` the
 -- number of the controls that were made; None where n steps are too few
-abbrev pub report_text : ℕ → List Bytes → List (Option Sym) → Program → State → List Event → Outcome → List Control → ℕ → Option Bytes
+abbrev pub report_text : ℕ → List Bytes → List NamedTerm → Program → State → List Event → Outcome → List Control → ℕ → Option Bytes
 report_text n names variables m s evs o controls reached =
-    both_texts (log_text n names evs)
+    both_texts (log_text n names log_head (last_state s evs).entries evs)
     (both_texts (Some (codes "outcome " ++ outcome_word o ++ codes "\n"))
-    (both_texts (variable_lines n names (last_state s evs).bound 1 variables)
+    (both_texts (variable_lines n names (last_state s evs).bound variables)
     (both_texts (Some (not_reached_lines (drop reached controls)))
     (snapshot_texts n names variables m evs))))

@@ -5,9 +5,44 @@ use Rattle.fcp_model.specs.declared.run.Entry.{Entry}
 use Rattle.fcp_model.specs.declared.run.Entry.TheVariants.{Commit, Hang, Fail, Snapshot, Suspend, Resume, Abort}
 use Rattle.fcp_model.specs.Places.{is_same_process}
 use Rattle.fcp_model.specs.Programs.{Program}
-use Rattle.fcp_model.specs.Decisions.{decide}
+use Rattle.fcp_model.specs.Decisions.{Decision, commits, decides_fail, waits_on, decide, Decides}
 use Rattle.fcp_model.specs.States.{Process, State, Mode, is_open, is_held, is_aborted, is_ready, is_running, is_suspended, process_named}
 use Rattle.fcp_model.specs.Events.{Event, event_of, control_event}
+
+-- the process is there and Ready
+abbrev pub is_ready_in : List Process → Proc → Bool
+is_ready_in ps q = elim (process_named ps q) [ None ↦ false | Some p ↦ is_ready p.status ]
+
+-- whether the run allows the entry now, whatever is decided: a move of a Ready process in an open run, and each control by the mode
+abbrev pub allows : State → Entry → Bool
+allows s (Commit p k) = is_running s.mode && is_ready_in s.processes p
+allows s (Hang p) = is_running s.mode && is_ready_in s.processes p
+allows s (Fail p) = is_running s.mode && is_ready_in s.processes p
+allows s Snapshot = is_running s.mode || is_suspended s.mode
+allows s Suspend = is_running s.mode
+allows s Resume = is_suspended s.mode
+allows s Abort = is_running s.mode || is_suspended s.mode
+
+-- the entry of a process for which a decision is made
+abbrev pub entry_decided : Proc → Decision → Entry
+entry_decided p (commits k bs rs) = Commit p k
+entry_decided p (waits_on rs) = Hang p
+entry_decided p (decides_fail rs) = Fail p
+
+-- the entry is the one that is decided for the process of that name
+pub record IsDecidedFor (m : Program) (s : State) (name : Proc) (e : Entry) : Type 0 where
+  pub process : Process
+  pub named : process_named s.processes name ≡ Some process
+  pub decision : Decision
+  pub decides : Decides m s.bound process.goal decision
+  pub agrees : entry_decided name decision ≡ e
+
+-- a move is the one that is decided; a control is not decided
+abbrev pub IsDecided : Program → State → Entry → Type 0
+IsDecided m s (Commit p k) = IsDecidedFor m s p (Commit p k)
+IsDecided m s (Hang p) = IsDecidedFor m s p (Hang p)
+IsDecided m s (Fail p) = IsDecidedFor m s p (Fail p)
+IsDecided m s _ = Unit {0}
 
 -- the same move: the same process, and for a commit the same clause
 abbrev pub is_same_move : Entry → Entry → Bool

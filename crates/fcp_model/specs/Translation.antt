@@ -12,8 +12,8 @@ use Rattle.fcp_model.specs.declared.source.Item.{Item}
 use Rattle.fcp_model.specs.declared.source.Clause as read
 use Rattle.fcp_model.specs.declared.source.Module as read_module
 use Rattle.fcp_model.specs.declared.source.GoalText as read_goal
-use Rattle.fcp_model.specs.declared.loaded.Head.{Head}
-use Rattle.fcp_model.specs.Heads.{heads_in, head_of, same_head}
+use Rattle.fcp_model.specs.declared.loaded.ProcedureName.{ProcedureName}
+use Rattle.fcp_model.specs.ProcedureNames.{procedure_names, procedure_name, same_procedure}
 use Rattle.fcp_model.specs.Terms.{Term, number, string, nil, cons, tuple, var, ro, Terms, none, more}
 use Rattle.fcp_model.specs.Expressions.{Expr, leaf, op}
 use Rattle.fcp_model.specs.Tests.{Kind, is_integer, is_string, is_constant, is_list, is_tuple, is_known, is_unknown, Test, always, otherwise, kind, same, not_same, ordered}
@@ -49,17 +49,17 @@ abbrev pub expr_of : source_expr.Expr → Expr ℕ
 expr_of = source_expr.fold-Expr (Expr ℕ) expr_step
 
 -- a procedure by its name and its number of arguments
-abbrev pub head_called : Sym → ℕ → Head
+abbrev pub head_called : Sym → ℕ → ProcedureName
 head_called name arity = record { name = name; arity = arity }
 
 -- a call: `true` with no argument is built in; else the number of its procedure, or the one past the last where the
 -- module has none, which has no clause
-abbrev pub user_goal : List Head → Sym → ℕ → List (Term ℕ) → Goal ℕ
-user_goal hs name zero ts = elim name.0 [ zero ↦ true' | suc k ↦ user (position_or_len (same_head (head_called name 0)) hs) ts ]
-user_goal hs name (suc n) ts = user (position_or_len (same_head (head_called name (suc n))) hs) ts
+abbrev pub user_goal : List ProcedureName → Sym → ℕ → List (Term ℕ) → Goal ℕ
+user_goal hs name zero ts = elim name.0 [ zero ↦ true' | suc k ↦ user (position_or_len (same_procedure (head_called name 0)) hs) ts ]
+user_goal hs name (suc n) ts = user (position_or_len (same_procedure (head_called name (suc n))) hs) ts
 
 -- an item of a body or a goal; an item that is only a test calls no procedure
-abbrev pub goal_of : List Head → Call → Goal ℕ
+abbrev pub goal_of : List ProcedureName → Call → Goal ℕ
 goal_of hs (User name args) = user_goal hs name (length args) (map term_of args)
 goal_of hs (Unify a b) = unifies (term_of a) (term_of b)
 goal_of hs (Assign a e) = assigns (term_of a) (expr_of e)
@@ -88,11 +88,11 @@ test_of (Unify a b) = None
 test_of (Assign a e) = None
 
 -- the goals of some items, in order
-abbrev pub goals_of : List Head → List Item → List (Goal ℕ)
+abbrev pub goals_of : List ProcedureName → List Item → List (Goal ℕ)
 goals_of hs items = map (λ i. goal_of hs i.call) items
 
 -- a clause; of its guard the tests alone
-abbrev pub clause_of : List Head → read.Clause → Clause
+abbrev pub clause_of : List ProcedureName → read.Clause → Clause
 clause_of hs c = record {
   vars = c.vars;
   args = map term_of c.args;
@@ -101,20 +101,20 @@ clause_of hs c = record {
 }
 
 -- the clauses of a procedure, in the order of the text
-abbrev pub clauses_called : List Head → Head → List read.Clause → List Clause
-clauses_called hs h cs = map (clause_of hs) (filter (λ c. same_head h (head_of c)) cs)
+abbrev pub clauses_called : List ProcedureName → ProcedureName → List read.Clause → List Clause
+clauses_called hs h cs = map (clause_of hs) (filter (λ c. same_procedure h (procedure_name c)) cs)
 
 -- a procedure with all its clauses, however scattered
-abbrev pub procedure_of : List Head → List read.Clause → Head → Procedure
+abbrev pub procedure_of : List ProcedureName → List read.Clause → ProcedureName → Procedure
 procedure_of hs cs h = record { name = h.name.0; arity = h.arity; clauses = clauses_called hs h cs }
 
 -- the program of a module: its procedures in the order of their first heads
 abbrev pub program_of : read_module.Module → Program
-program_of m = map (procedure_of (heads_in m.clauses) m.clauses) (heads_in m.clauses)
+program_of m = map (procedure_of (procedure_names m.clauses) m.clauses) (procedure_names m.clauses)
 
 -- the goals of a goal's text, for a module
 abbrev pub started_goals : read_module.Module → read_goal.GoalText → List (Goal ℕ)
-started_goals m g = goals_of (heads_in m.clauses) g.items
+started_goals m g = goals_of (procedure_names m.clauses) g.items
 
 -- the state before the first entry
 abbrev pub start_of : read_module.Module → read_goal.GoalText → State

@@ -14,7 +14,7 @@ mod text;
 
 pub use fault::{Code, Fault, Refused};
 pub use goal::{ASSIGN_PROCEDURE, LoadedGoal, TRUE_PROCEDURE, UNIFY_PROCEDURE, number_of};
-pub use loaded::{Head, Loaded};
+pub use loaded::{Loaded, ProcedureName};
 pub use memory::NoMemory;
 pub use names::{Names, Sym};
 pub use run::{Act, Control, Entry, Limits, Outcome, Place, Proc, Run};

@@ -1,7 +1,7 @@
 ghost use Rattle.std.specs.Prelude.{◌≡◌, ◌<◌, ◌^◌, length, slice_get, Some, map, option_map, IfOk, OnOk, position, All};
 ghost use Rattle.std.specs.List.{list_any};
 ghost use Rattle.indexmap.specs.IndexSet.{insert_key};
-ghost use Rattle.fcp_model.specs.Heads.{heads_in, head_of, same_head, positions_in, is_exported, same_export, with_position};
+ghost use Rattle.fcp_model.specs.ProcedureNames.{procedure_names, procedure_name, same_procedure, positions_in, is_exported, same_export, with_position};
 
 use crate::{Clause, Export, Module, NoMemory, Seq, Sym};
 use indexmap::IndexSet;
@@ -10,7 +10,7 @@ use std::marker::Model;
 
 /// A procedure: its name with its number of arguments.
 #[derive(Clone, Copy, Debug, PartialEq, Eq, Hash)]
-pub struct Head {
+pub struct ProcedureName {
     pub name: Sym,
     pub arity: u32,
 }
@@ -20,7 +20,7 @@ pub struct Head {
 #[derive(Drop)]
 pub struct Loaded {
     module: Module,
-    heads: IndexSet<Head>,
+    heads: IndexSet<ProcedureName>,
     places: Vec<Vec<u32>>,
 }
 
@@ -36,7 +36,7 @@ impl Model for Loaded {
 
     ghost coded = { Prim.hlevel (codes, term.the_row.coded, expr.the_row.coded) };
 
-    ghost use Rattle.fcp_model.specs.Heads.{IsIndex};
+    ghost use Rattle.fcp_model.specs.ProcedureNames.{IsIndex};
 
     ghost view = { λ l. l.module };
 
@@ -71,20 +71,20 @@ impl Loaded {
 
     /// The number of a procedure, from 0; `None` for one that has no clause.
     pub fn find(&self, name: Sym, arity: u32) -> Option<u32>
-        ensures { result ≡ position (same_head (record { name = name; arity = arity })) (heads_in self.now.clauses) }
+        ensures { result ≡ position (same_procedure (record { name = name; arity = arity })) (procedure_names self.now.clauses) }
     {
         self.find_called(name, arity as usize)
     }
 
     /// The number of the procedure that a call with so many arguments names, as `find` gives it.
     pub(crate) fn find_called(&self, name: Sym, args: usize) -> Option<u32>
-        ensures { result ≡ position (same_head (record { name = name; arity = args })) (heads_in self.now.clauses) }
+        ensures { result ≡ position (same_procedure (record { name = name; arity = args })) (procedure_names self.now.clauses) }
     {
         let heads = &self.heads;
         let Ok(arity) = u32::try_from(args) else {
             return None;
         };
-        match heads.get_index_of(&Head { name, arity }) {
+        match heads.get_index_of(&ProcedureName { name, arity }) {
             Some(at) => Some(at as u32),
             None => None,
         }
@@ -92,15 +92,15 @@ impl Loaded {
 
     /// How many procedures there are.
     pub fn procedures(&self) -> u32
-        ensures { result ≡ length (heads_in self.now.clauses) }
+        ensures { result ≡ length (procedure_names self.now.clauses) }
     {
         self.heads.len() as u32
     }
 
     /// Whether a procedure is exported.
     pub fn exported(&self, procedure: u32) -> bool
-        requires { procedure < length (heads_in self.now.clauses) }
-        ensures { option_map (is_exported self.now) (slice_get (heads_in self.now.clauses) procedure) ≡ Some result }
+        requires { procedure < length (procedure_names self.now.clauses) }
+        ensures { option_map (is_exported self.now) (slice_get (procedure_names self.now.clauses) procedure) ≡ Some result }
     {
         let head = self.heads[procedure as usize];
         match &self.module.exports {
@@ -111,7 +111,7 @@ impl Loaded {
 
     /// The positions, from 0, of a procedure's clauses in the module, in the order of the text.
     pub fn clauses(&self, procedure: u32) -> &[u32]
-        requires { procedure < length (heads_in self.now.clauses) }
+        requires { procedure < length (procedure_names self.now.clauses) }
         ensures { slice_get (positions_in self.now.clauses) procedure ≡ Some result.now }
     {
         self.places[procedure as usize].as_slice()
@@ -119,7 +119,7 @@ impl Loaded {
 }
 
 /// Whether a procedure is among the elements of the `-export`s.
-fn lists(exports: &Seq<Export>, head: Head) -> bool
+fn lists(exports: &Seq<Export>, head: ProcedureName) -> bool
     ensures { result ≡ list_any (same_export head) exports.now }
 {
     exports.as_slice().iter().any(|export| export.name == head.name && export.arity == head.arity)
@@ -128,17 +128,17 @@ fn lists(exports: &Seq<Export>, head: Head) -> bool
 /// Notes the clause at a position: its procedure, put last where it is a new one, and the position there.
 fn note_clause(
     alloc: Global,
-    heads: &mut IndexSet<Head>,
+    heads: &mut IndexSet<ProcedureName>,
     places: &mut Vec<Vec<u32>>,
     clause: &Clause,
     at: u32,
 ) -> Result<(), NoMemory>
     requires arity { length clause.now.args < 2 ^ 32 }
     requires kept { length heads.old.keys ≡ length places.old.items }
-    ensures heads { OnOk result (heads.new.keys ≡ insert_key same_head heads.old.keys (head_of clause.now)) }
-    ensures places { OnOk result (map (λ v. v.items) places.new.items ≡ with_position heads.old.keys (head_of clause.now) at (map (λ v. v.items) places.old.items)) }
+    ensures heads { OnOk result (heads.new.keys ≡ insert_key same_procedure heads.old.keys (procedure_name clause.now)) }
+    ensures places { OnOk result (map (λ v. v.items) places.new.items ≡ with_position heads.old.keys (procedure_name clause.now) at (map (λ v. v.items) places.old.items)) }
 {
-    let head = Head {
+    let head = ProcedureName {
         name: clause.head,
         arity: clause.args.len() as u32,
     };

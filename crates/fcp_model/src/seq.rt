@@ -1,6 +1,7 @@
-ghost use Rattle.std.specs.Prelude.{◌≡◌, ◌≤◌, [], ◌∷◌, ◌++◌, ◌↔◌, length, slice_get, IsNone, OnOk, OnErr, IfErr};
+ghost use Rattle.std.specs.Prelude.{◌≡◌, ◌≤◌, [], ◌∷◌, ◌++◌, ◌↔◌, length, slice_get, IsNone, IfOk, OnOk, OnErr, IfErr};
 ghost use Rattle.std.specs.Option.{option_copied};
 
+use crate::NoMemory;
 use std::alloc::Global;
 use std::marker::Model;
 
@@ -84,5 +85,18 @@ impl<T> Seq<T> {
         ensures { result.now ≡ self.now }
     {
         self.items.as_slice()
+    }
+}
+
+impl<T: Drop> Seq<T> {
+    /// The list with one item more, put last. Where memory lacks, list and item are given up.
+    pub fn with(self, item: T) -> Result<Seq<T>, NoMemory>
+        ensures { IfOk result (λ s. s ≡ self ++ item ∷ []) }
+    {
+        let mut longer = self;
+        match longer.push(item) {
+            Ok(()) => Ok(longer),
+            Err(_) => Err(NoMemory),
+        }
     }
 }

@@ -8,22 +8,22 @@ use Rattle.fcp_model.specs.Programs.{Program}
 use Rattle.fcp_model.specs.States.{State}
 use Rattle.fcp_model.specs.Events.{Event}
 use Rattle.fcp_model.specs.Runs.{last_state}
-use Rattle.fcp_model.specs.OneWorker.{Stand}
+use Rattle.fcp_model.specs.OneWorker.{Schedule}
 use Rattle.fcp_model.specs.Spelling.{Bytes}
 use Rattle.fcp_model.specs.LogText.{both_texts, event_line, event_lines, log_text}
 use Rattle.fcp_model.specs.ReportText.{outcome_word, variable_lines, not_reached_lines, snapshot_texts, report_text}
 use Rattle.fcp_rows.specs.Examples.{lines}
 
 -- what some rulings came to
-abbrev pub events_of : Option (List Event × Stand) → List Event
+abbrev pub events_of : Option (List Event × Schedule) → List Event
 events_of None = []
 events_of (Some r) = r.0
 
-abbrev pub stand_of : Stand → Option (List Event × Stand) → Stand
+abbrev pub stand_of : Schedule → Option (List Event × Schedule) → Schedule
 stand_of at None = at
 stand_of at (Some r) = r.1
 
-pub came_to : (at : Stand) (o : Option (List Event × Stand)) → is_some o ≡ true → o ≡ Some (events_of o, stand_of at o)
+pub came_to : (at : Schedule) (o : Option (List Event × Schedule)) → is_some o ≡ true → o ≡ Some (events_of o, stand_of at o)
 came_to at None e = cc
 came_to at (Some r) e = refl
 

@@ -13,9 +13,9 @@ use Rattle.fcp_model.specs.Programs.{Goal, Clause, Procedure, Program}
 use Rattle.fcp_model.specs.States.{start}
 use Rattle.fcp_model.specs.Events.{Event}
 use Rattle.fcp_model.specs.Runs.{entries_of}
-use Rattle.fcp_model.specs.OneWorker.{Stand, IsOneWorkerRun}
+use Rattle.fcp_model.specs.OneWorker.{Schedule, IsOneWorkerRun}
 use Rattle.fcp_model.specs.Outcomes.{Ends}
-use Rattle.fcp_model.specs.Reports.{IsReport}
+use Rattle.fcp_model.specs.Reports.{IsOneWorkerReport}
 use Rattle.fcp_model.specs.Spelling.{Bytes}
 
 -- a program, a goal with its variables, limits and controls
@@ -113,12 +113,12 @@ lines (l ∷ ls) = l ++ codes "\n" ++ lines ls
 
 -- the report of the example's run by one worker has these lines, and the run has this outcome
 abbrev pub Prints : Example → Outcome → List Bytes → Type 0
-Prints e o ls = IsReport e.program (start (length e.variables) e.goal) e.limits e.controls names e.variables o (lines ls)
+Prints e o ls = IsOneWorkerReport e.program (start (length e.variables) e.goal) e.limits e.controls names e.variables o (lines ls)
 
 -- the run of the example by one worker has these entries, it has this outcome, and the goal's first variable comes to this value
 pub record Logs (e : Example) (o : Outcome) (entries : List Entry) (look : Look) : Type 0 where
   pub events : List Event
-  pub last : Stand
+  pub last : Schedule
   pub run : IsOneWorkerRun e.program e.limits (start (length e.variables) e.goal) e.controls events last
   pub entered : entries_of events ≡ entries
   pub outcome : Ends e.program e.limits (start (length e.variables) e.goal) events o

@@ -10,8 +10,8 @@ use Rattle.fcp_model.specs.declared.source.Call.TheVariants.{User}
 use Rattle.fcp_model.specs.declared.source.Module.{Module}
 use Rattle.fcp_model.specs.FirstForm.{is_true, is_called}
 use Rattle.fcp_model.specs.Goals.{number_of_call}
-use Rattle.fcp_model.specs.Heads.{heads_in, same_head}
-use Rattle.fcp_model.specs.declared.goal.TheConstants.{TRUE_PROCEDURE}
+use Rattle.fcp_model.specs.ProcedureNames.{procedure_names, same_procedure}
+use Rattle.fcp_model.specs.Goals.{true_procedure}
 
 nat_lt-suc : (n k : ℕ) → nat_lt (1 + n) (suc k) ≡ nat_lt n k
 nat_lt-suc n k = elim (cases_lt n k) [
@@ -35,9 +35,9 @@ module _ {X : Type 0} (p : X → Bool) where
   pub is_some-position : (xs : List X) → is_some (position p xs) ≡ list_any p xs
   is_some-position xs = is_some-cond (nat_lt (position_or_len p xs) (length xs)) (position_or_len p xs) ∙ place-below xs
 
-pub is_some-number : (m : Module) (call : Call) (name : Sym) (args : List Term) → call ≡ User name args → is_true name.0 (length args) ≡ false → is_some (number_of_call m call) ≡ is_called (heads_in m.clauses) call
+pub is_some-number : (m : Module) (call : Call) (name : Sym) (args : List Term) → call ≡ User name args → is_true name.0 (length args) ≡ false → is_some (number_of_call m call) ≡ is_called (procedure_names m.clauses) call
 is_some-number m call name args is free = rw is (by (is_true name.0 (length args)) free)
   where
-    by : (b : Bool) → b ≡ false → is_some (if b then Some TRUE_PROCEDURE else position (same_head (record { name = name; arity = length args })) (heads_in m.clauses)) ≡ (not b && list_any (same_head (record { name = name; arity = length args })) (heads_in m.clauses))
+    by : (b : Bool) → b ≡ false → is_some (if b then Some true_procedure else position (same_procedure (record { name = name; arity = length args })) (procedure_names m.clauses)) ≡ (not b && list_any (same_procedure (record { name = name; arity = length args })) (procedure_names m.clauses))
     by true e = cc
-    by false e = is_some-position (same_head (record { name = name; arity = length args })) (heads_in m.clauses)
+    by false e = is_some-position (same_procedure (record { name = name; arity = length args })) (procedure_names m.clauses)

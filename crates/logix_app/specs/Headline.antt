@@ -6,7 +6,7 @@ use Rattle.fcp_model.specs.declared.run.Outcome.{Outcome}
 use Rattle.fcp_model.specs.declared.source.Module.{Module}
 use Rattle.fcp_model.specs.declared.source.GoalText.{GoalText}
 use Rattle.fcp_model.specs.Codes.{code_number}
-use Rattle.fcp_model.specs.Reports.{IsReport}
+use Rattle.fcp_model.specs.Reports.{IsOneWorkerReport}
 use Rattle.fcp_model.specs.Spelling.{Bytes}
 use Rattle.fcp_model.specs.Translation.{program_of, start_of}
 use Rattle.fcp_text.specs.SourceClauses.{module_text}
@@ -67,7 +67,7 @@ pub record Ran (words : List Bytes) (held : Option Entries) (o : Outcome) (text 
   pub names : List Bytes
   pub loaded : AreLoaded bytes goal m g names
   pub runnable : is_runnable m g ≡ true
-  pub report : IsReport (program_of m) (start_of m g) default_limits [] names g.names o text
+  pub report : IsOneWorkerReport (program_of m) (start_of m g) default_limits [] names g.names o text
 
 -- the file is a module without a fault: the text is its canonical text
 pub record HasShown (words : List Bytes) (held : Option Entries) (text : Bytes) : Type 0 where

@@ -5,7 +5,7 @@ use Rattle.fcp_model.specs.declared.fault.Refused.{Refused}
 use Rattle.fcp_model.specs.declared.fault.Refused.TheVariants as refused
 use Rattle.fcp_model.specs.declared.source.Module.{Module}
 use Rattle.fcp_model.specs.declared.source.GoalText.{GoalText}
-use Rattle.fcp_model.specs.Reports.{IsReport}
+use Rattle.fcp_model.specs.Reports.{IsOneWorkerReport}
 use Rattle.fcp_model.specs.Spelling.{Bytes}
 use Rattle.fcp_model.specs.Translation.{program_of, start_of}
 use Rattle.fcp_loader.specs.Faults.{goal_faults_of}
@@ -58,7 +58,7 @@ pub record IsReportOf (file goal : Bytes) (r : Report) : Type 0 where
   pub names : List Bytes
   pub loaded : AreLoaded file goal m g names
   pub runnable : is_runnable m g ≡ true
-  pub report : IsReport (program_of m) (start_of m g) default_limits [] names g.names r.outcome r.text.items
+  pub report : IsOneWorkerReport (program_of m) (start_of m g) default_limits [] names g.names r.outcome r.text.items
 
 -- neither has a fault, and they are not of what runs so far
 pub record AreNotRun (file goal : Bytes) : Type 0 where
@@ -114,7 +114,7 @@ AnswersRequest (show file) bytes a = AnswersShow bytes a
 
 -- an answer to a goal that is loaded, for a module
 abbrev pub AnswersLoaded : List Bytes → Module → GoalText → Answer → Type 0
-AnswersLoaded names m g (Ran r) = (is_runnable m g ≡ true) × IsReport (program_of m) (start_of m g) default_limits [] names g.names r.outcome r.text.items
+AnswersLoaded names m g (Ran r) = (is_runnable m g ≡ true) × IsOneWorkerReport (program_of m) (start_of m g) default_limits [] names g.names r.outcome r.text.items
 AnswersLoaded names m g NotInForm = is_runnable m g ≡ false
 AnswersLoaded names m g NoMemory = Unit {0}
 AnswersLoaded names m g _ = ⊥
@@ -125,7 +125,7 @@ pub record IsReportFor (m : Module) (before : List Bytes) (goal : Bytes) (r : Re
   pub names : List Bytes
   pub loaded : IsLoadedGoal m before goal g names
   pub runnable : is_runnable m g ≡ true
-  pub report : IsReport (program_of m) (start_of m g) default_limits [] names g.names r.outcome r.text.items
+  pub report : IsOneWorkerReport (program_of m) (start_of m g) default_limits [] names g.names r.outcome r.text.items
 
 -- the goal's text has no fault, and is not of what runs so far over the module
 pub record IsNotRunFor (m : Module) (before : List Bytes) (goal : Bytes) : Type 0 where

@@ -1,13 +1,13 @@
 //! Whether items call procedures that have a clause.
 ghost use Rattle.std.specs.Prelude.{◌≡◌};
 ghost use Rattle.fcp_model.specs.FirstForm as spec;
-ghost use Rattle.fcp_model.specs.Heads.{heads_in};
+ghost use Rattle.fcp_model.specs.ProcedureNames.{procedure_names};
 
 use fcp_model::{Call, Item, Loaded, number_of};
 
 /// The call is one of a procedure of the module that has a clause.
 fn is_called(loaded: &Loaded, call: &Call) -> bool
-    ensures { result ≡ spec.is_called (heads_in loaded.now.clauses) call.now }
+    ensures { result ≡ spec.is_called (procedure_names loaded.now.clauses) call.now }
 {
     match call {
         Call::User { name, args } if name.0 == 0 && args.len() == 0 => false,
@@ -18,7 +18,7 @@ fn is_called(loaded: &Loaded, call: &Call) -> bool
 
 /// Each item is such a call.
 pub fn are_called(loaded: &Loaded, items: &[Item]) -> bool
-    ensures { result ≡ spec.are_called (heads_in loaded.now.clauses) items.now }
+    ensures { result ≡ spec.are_called (procedure_names loaded.now.clauses) items.now }
 {
     items.iter().all(|item| is_called(loaded, &item.call))
 }

@@ -3,15 +3,15 @@ use Rattle.std.proofs.Common.{◌≡◌, ℕ, suc, List, [], ◌∷◌, ◌++◌
 use Rattle.std.specs.Prelude.{filter, codes}
 use Rattle.std.proofs.lemmas.Bool.{and_parts}
 use Rattle.fcp_model.specs.declared.source.Item.{Item}
-use Rattle.fcp_model.specs.Heads.{heads_in}
+use Rattle.fcp_model.specs.ProcedureNames.{procedure_names}
 use Rattle.fcp_model.specs.Places.{Variable, placed}
 use Rattle.fcp_model.specs.Programs.{Goal, rename_goal}
 use Rattle.fcp_model.specs.States as run
 use Rattle.fcp_model.specs.States.{is_ready, processes_of}
-use Rattle.fcp_model.specs.WaitingProcesses.{waiting_of}
+use Rattle.fcp_laws.specs.WaitingProcesses.{waiting_of}
 use Rattle.fcp_model.specs.OneWorker.{begin}
 use Rattle.fcp_model.specs.Translation.{program_of, start_of, goals_of}
-use Rattle.fcp_model.proofs.Leading.{led_nowhere}
+use Rattle.fcp_laws.proofs.Leading.{led_nowhere}
 use Rattle.plain_engine.specs.declared.process.Process.{Process}
 use Rattle.plain_engine.specs.declared.engine.Task.{Task}
 use Rattle.plain_engine.specs.declared.engine.Engine.{Engine}
@@ -41,16 +41,16 @@ goal_plain t h = (and_parts _ _ h.plain_goal).1
 
 -- what was put into an empty queue
 pub in_queue : (t : Task) (items : List Item) (old new : List Process) → items ≡ t.goal.now.items → old ≡ []
-    → map process_of new ≡ map process_of old ++ processes_of 0 1 (map (rename_goal (placed 0)) (goals_of (heads_in t.loaded.now.clauses) items))
-    → map process_of new ≡ processes_of 0 1 (map (rename_goal (placed 0)) (goals_of (heads_in t.loaded.now.clauses) t.goal.now.items))
+    → map process_of new ≡ map process_of old ++ processes_of 0 1 (map (rename_goal (placed 0)) (goals_of (procedure_names t.loaded.now.clauses) items))
+    → map process_of new ≡ processes_of 0 1 (map (rename_goal (placed 0)) (goals_of (procedure_names t.loaded.now.clauses) t.goal.now.items))
 in_queue t items old new is none put =
-    put ∙ (ap (λ ps. map process_of ps ++ processes_of 0 1 (map (rename_goal (placed 0)) (goals_of (heads_in t.loaded.now.clauses) items))) none
-    ∙ ap (λ xs. processes_of 0 1 (map (rename_goal (placed 0)) (goals_of (heads_in t.loaded.now.clauses) xs))) is)
+    put ∙ (ap (λ ps. map process_of ps ++ processes_of 0 1 (map (rename_goal (placed 0)) (goals_of (procedure_names t.loaded.now.clauses) items))) none
+    ∙ ap (λ xs. processes_of 0 1 (map (rename_goal (placed 0)) (goals_of (procedure_names t.loaded.now.clauses) xs))) is)
 
-pub begun : (t : Task) (e : Engine) → IsTask t → e.store ≡ [] → map process_of e.queue.items ≡ processes_of 0 1 (map (rename_goal (placed 0)) (goals_of (heads_in t.loaded.now.clauses) t.goal.now.items))
+pub begun : (t : Task) (e : Engine) → IsTask t → e.store ≡ [] → map process_of e.queue.items ≡ processes_of 0 1 (map (rename_goal (placed 0)) (goals_of (procedure_names t.loaded.now.clauses) t.goal.now.items))
     → e.waiting.items ≡ [] → e.text.items ≡ codes "logix log 1\n" → e.passed ≡ 0 → e.commits ≡ 0 → e.moves ≡ 0 → e.cells ≡ 0 → IsReached t [] e
 begun t e h store queue waiting text passed commits moves cells =
-    let hs = heads_in t.loaded.now.clauses in
+    let hs = procedure_names t.loaded.now.clauses in
     let gs = map (rename_goal (placed 0)) (goals_of hs t.goal.now.items) in
     let bound : [] ≡ bound_of e.store = sym (ap bound_of store) in
     let queued : filter (λ p. is_ready p.status) (processes_of 0 1 gs) ≡ processes_of 0 1 gs = all_ready 0 1 gs in

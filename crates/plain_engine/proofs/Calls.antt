@@ -1,6 +1,5 @@
 -- Calls of procedures that a module has.
-use Rattle.std.proofs.Common.{◌≡◌, ℕ, ◌<◌, Bool, true, false, cond, ◌||◌, not, List, [], ◌∷◌, length, Option, Some, None, refl, ap, ◌∙◌, arith}
-use Rattle.std.proofs.Common.{subst}
+use Rattle.std.proofs.Common.{◌≡◌, ℕ, ◌<◌, Bool, true, false, cond, ◌||◌, not, List, [], ◌∷◌, length, Option, Some, None, refl, ap, ◌∙◌, arith, subst}
 use Rattle.std.specs.Prelude.{position}
 use Rattle.std.specs.List.{list_any, position_or_len}
 use Rattle.std.proofs.lemmas.Bool.{lt-ltb, and_parts}
@@ -8,8 +7,8 @@ use Rattle.fcp_model.specs.declared.names.Sym.{Sym}
 use Rattle.fcp_model.specs.declared.term.Term.{Term}
 use Rattle.fcp_model.specs.declared.source.Call.{Call}
 use Rattle.fcp_model.specs.declared.source.Call.TheVariants.{User}
-use Rattle.fcp_model.specs.declared.loaded.Head.{Head}
-use Rattle.fcp_model.specs.Heads.{same_head}
+use Rattle.fcp_model.specs.declared.loaded.ProcedureName.{ProcedureName}
+use Rattle.fcp_model.specs.ProcedureNames.{same_procedure}
 use Rattle.fcp_model.specs.FirstForm.{is_called, is_true}
 
 module _ {X : Type 0} (p : X → Bool) where
@@ -26,11 +25,11 @@ module _ {X : Type 0} (p : X → Bool) where
   found_position xs h = ap (λ b. cond b (Some (position_or_len p xs)) None) (lt-ltb _ _ (any_found xs h))
 
 -- a called procedure has a number
-pub call_found : (hs : List Head) (call : Call) (name : Sym) (args : List Term) (n : ℕ) (r : Option ℕ) → call ≡ User name args → n ≡ length args → is_called hs call ≡ true
-    → r ≡ position (same_head (record { name = name; arity = n })) hs → r ≡ None → ⊥
+pub call_found : (hs : List ProcedureName) (call : Call) (name : Sym) (args : List Term) (n : ℕ) (r : Option ℕ) → call ≡ User name args → n ≡ length args → is_called hs call ≡ true
+    → r ≡ position (same_procedure (record { name = name; arity = n })) hs → r ≡ None → ⊥
 call_found hs call name args n r is long called found none =
     let h : is_called hs (User name args) ≡ true = subst (λ c. is_called hs c ≡ true) is called in
-    let there : list_any (same_head (record { name = name; arity = length args })) hs ≡ true = (and_parts (not (is_true name.0 (length args))) _ h).1 in
-    let some : r ≡ Some (position_or_len (same_head (record { name = name; arity = length args })) hs) =
-    found ∙ (ap (λ k. position (same_head (record { name = name; arity = k })) hs) long ∙ found_position (same_head (record { name = name; arity = length args })) hs there) in
+    let there : list_any (same_procedure (record { name = name; arity = length args })) hs ≡ true = (and_parts (not (is_true name.0 (length args))) _ h).1 in
+    let some : r ≡ Some (position_or_len (same_procedure (record { name = name; arity = length args })) hs) =
+    found ∙ (ap (λ k. position (same_procedure (record { name = name; arity = k })) hs) long ∙ found_position (same_procedure (record { name = name; arity = length args })) hs there) in
     cc

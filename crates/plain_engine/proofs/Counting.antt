@@ -8,16 +8,16 @@ use Rattle.fcp_model.specs.States.{State, Process}
 use Rattle.fcp_model.specs.Events.{Event, event_of}
 use Rattle.fcp_model.specs.Runs.{entries_of}
 use Rattle.fcp_model.specs.Bounds.{is_move, moves_in, one}
-use Rattle.fcp_model.specs.OneWorker.{Stand, begin, Leads}
-use Rattle.fcp_model.proofs.Rulings.{Holds}
-use Rattle.fcp_model.proofs.StandCounts.{LeadsOn, by_rulings, leads_counts}
+use Rattle.fcp_model.specs.OneWorker.{Schedule, begin, Leads}
+use Rattle.fcp_laws.proofs.Rulings.{Holds}
+use Rattle.fcp_laws.proofs.ScheduleCounts.{LeadsOn, by_rulings, leads_counts}
 
 -- each event is a move
 abbrev pub AreMoves : List Event → Type 0
 AreMoves [] = Unit {0}
 AreMoves (ev ∷ evs) = (is_move ev.entry ≡ true) × AreMoves evs
 
-abbrev MovesOn : Stand → List Event × Stand → Type 0
+abbrev MovesOn : Schedule → List Event × Schedule → Type 0
 MovesOn at x = at.controls ≡ [] → AreMoves x.0
 
 event_moves : (m : Program) (s : State) (p : Process) (d : Decision) → is_move (event_of m s p d).entry ≡ true
@@ -25,7 +25,7 @@ event_moves m s p (commits k bs rs) = refl
 event_moves m s p (waits_on rs) = refl
 event_moves m s p (decides_fail rs) = refl
 
-moves_on : (n : ℕ) (m : Program) (limits : Limits) (at : Stand) → Holds n m limits at (LeadsOn MovesOn at)
+moves_on : (n : ℕ) (m : Program) (limits : Limits) (at : Schedule) → Holds n m limits at (LeadsOn MovesOn at)
 moves_on n m limits at = record {
   at_end = tt;
   at_control = λ o c cs i j x rec none. let wrong : c ∷ cs ≡ [] = sym i ∙ none in cc;
@@ -33,7 +33,7 @@ moves_on n m limits at = record {
   at_move = λ p rest d f i x rec none. (event_moves m at.state p d, rec none);
 }
 
-pub all_moves : (m : Program) (limits : Limits) (s : State) (evs : List Event) (at : Stand) → Leads m limits (begin s []) evs at → AreMoves evs
+pub all_moves : (m : Program) (limits : Limits) (s : State) (evs : List Event) (at : Schedule) → Leads m limits (begin s []) evs at → AreMoves evs
 all_moves m limits s evs at l = by_rulings l.steps m limits MovesOn (λ to none. tt) (moves_on l.steps m limits) l.count (begin s []) (evs, at) l.followed refl
 
 moves_counted : (evs : List Event) → AreMoves evs → length evs ≡ moves_in (entries_of evs)
@@ -44,5 +44,5 @@ moves_counted (ev ∷ evs) h =
     omega (arith, rec, here, sum_by-cons (λ e. cond (is_move e) 1 0) ev.entry (entries_of evs))
 
 -- so there are as many events as moves
-pub events_counted : (m : Program) (limits : Limits) (s : State) (evs : List Event) (at : Stand) → Leads m limits (begin s []) evs at → length evs ≡ at.moves
+pub events_counted : (m : Program) (limits : Limits) (s : State) (evs : List Event) (at : Schedule) → Leads m limits (begin s []) evs at → length evs ≡ at.moves
 events_counted m limits s evs at l = moves_counted evs (all_moves m limits s evs at l) ∙ sym (leads_counts m limits s [] evs at l).moves

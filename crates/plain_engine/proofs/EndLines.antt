@@ -9,9 +9,9 @@ use Rattle.fcp_model.specs.declared.run.Outcome.TheVariants.{Terminated, Suspend
 use Rattle.fcp_model.specs.Places.{placed}
 use Rattle.fcp_model.specs.Terms.{var, Bindings}
 use Rattle.fcp_model.specs.States as run
-use Rattle.fcp_model.specs.OneWorker.{Stand}
-use Rattle.fcp_model.specs.Endings.{outcome_at}
-use Rattle.fcp_model.specs.WaitingProcesses.{is_waiting, waiting_of}
+use Rattle.fcp_model.specs.OneWorker.{Schedule}
+use Rattle.fcp_laws.specs.Endings.{outcome_at}
+use Rattle.fcp_laws.specs.WaitingProcesses.{is_waiting, waiting_of}
 use Rattle.fcp_model.specs.Spelling.{Bytes, name_at}
 use Rattle.fcp_model.specs.TermText.{cut_text}
 use Rattle.fcp_model.specs.LogText.{both_texts}
@@ -20,7 +20,7 @@ use Rattle.plain_engine.specs.declared.process.Process.{Process}
 use Rattle.plain_engine.specs.declared.process.Waiting.{Waiting}
 use Rattle.plain_engine.specs.declared.engine.Engine.{Engine}
 use Rattle.plain_engine.specs.Additions.{Adds}
-use Rattle.plain_engine.specs.Engines.{StandsAt}
+use Rattle.plain_engine.specs.Engines.{ScheduledAt}
 use Rattle.plain_engine.specs.Processes.{process_of, waiting_process}
 use Rattle.plain_engine.proofs.AddedTexts.{gives_map, gives_same, adds_both}
 
@@ -92,7 +92,7 @@ not_none zero k e f = cc
 not_none (suc n) k e f = omega (arith, e)
 
 -- with an empty queue the run is terminated where none waits, and else suspended
-module _ (limits : Limits) (e : Engine) (at : Stand) (h : StandsAt [] e at) (empty : length e.queue.items ≡ 0) where
+module _ (limits : Limits) (e : Engine) (at : Schedule) (h : ScheduledAt [] e at) (empty : length e.queue.items ≡ 0) where
   no_queue : (ps : List Process) → length ps ≡ 0 → map process_of ps ≡ []
   no_queue [] e = refl
   no_queue (p ∷ ps) e = absurd (omega arith)

@@ -9,17 +9,17 @@ use Rattle.fcp_model.specs.Programs.{Program}
 use Rattle.fcp_model.specs.States.{Process, Mode, is_open, is_suspended}
 use Rattle.fcp_model.specs.Decisions.{Decision, decide}
 use Rattle.fcp_model.specs.Events.{Event, event_of}
-use Rattle.fcp_model.specs.OneWorker.{Stand, ends, passes, makes, is_over, is_due, control_ruling, after_event, front_ruling, queue_ruling, ruling}
+use Rattle.fcp_model.specs.OneWorker.{Schedule, ends, passes, makes, is_over, is_due, control_ruling, after_event, front_ruling, queue_ruling, ruling}
 
 -- an open run without controls
-pub record IsPlainStand (at : Stand) : Type 0 where
+pub record IsPlainSchedule (at : Schedule) : Type 0 where
   pub mode : at.state.mode ≡ is_open
   pub controls : at.controls ≡ []
 
 at_least_false : (a b : ℕ) → b < a → nat_le a b ≡ false
 at_least_false a b h = grind (arith, nat_tests)
 
-module _ (m : Program) (limits : Limits) (at : Stand) (plain : IsPlainStand at) where
+module _ (m : Program) (limits : Limits) (at : Schedule) (plain : IsPlainSchedule at) where
   -- the queue decides
   pub by_queue : (n : ℕ) → ruling n m limits at ≡ queue_ruling n m limits at at.queue
   by_queue n =

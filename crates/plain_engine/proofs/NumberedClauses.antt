@@ -5,7 +5,7 @@ use Rattle.std.proofs.lemmas.Bool.{and_parts}
 use Rattle.std.proofs.lemmas.Option.{slice_get-get_or}
 use Rattle.fcp_model.specs.declared.source.Clause.{Clause}
 use Rattle.fcp_model.specs.declared.source.Module.{Module}
-use Rattle.fcp_model.specs.Heads.{heads_in, positions_in}
+use Rattle.fcp_model.specs.ProcedureNames.{procedure_names, positions_in}
 use Rattle.fcp_model.specs.Programs.{clauses_of}
 use Rattle.fcp_model.specs.Translation.{program_of, clause_of}
 use Rattle.fcp_model.specs.FirstForm.{are_called, bodies_called, are_flat, is_empty, are_plain_items}
@@ -23,12 +23,12 @@ module _ (m : Module) (p : ℕ) (ps : List ℕ) (e : slice_get (positions_in m.c
   pub clause_within : get_or ps (n - 1) 0 < length m.clauses
   clause_within = position_within m p ps e (n - 1) (get_or ps (n - 1) 0) at_number
 
-  pub clause_is : (c : Clause) → slice_get m.clauses (get_or ps (n - 1) 0) ≡ Some c → slice_get (clauses_of (program_of m) p) (n - 1) ≡ Some (clause_of (heads_in m.clauses) c)
+  pub clause_is : (c : Clause) → slice_get m.clauses (get_or ps (n - 1) 0) ≡ Some c → slice_get (clauses_of (program_of m) p) (n - 1) ≡ Some (clause_of (procedure_names m.clauses) c)
   clause_is c f = (called_at m p ps e (n - 1) (get_or ps (n - 1) 0) c at_number f).there
 
 -- its body is of calls that the module answers
-pub body_called : (m : Module) (at : ℕ) (c : Clause) → bodies_called m ≡ true → slice_get m.clauses at ≡ Some c → are_called (heads_in m.clauses) c.body ≡ true
-body_called m at c h e = passes_at (λ (d : Clause). are_called (heads_in m.clauses) d.body) m.clauses at c h e
+pub body_called : (m : Module) (at : ℕ) (c : Clause) → bodies_called m ≡ true → slice_get m.clauses at ≡ Some c → are_called (procedure_names m.clauses) c.body ≡ true
+body_called m at c h e = passes_at (λ (d : Clause). are_called (procedure_names m.clauses) d.body) m.clauses at c h e
 
 pub body_plain : (c : Clause) → IsPlainClause c → ArePlainItems c.vars c.body
 body_plain c p = (and_parts (nat_le c.vars 250 && are_flat c.vars c.args && is_empty c.guard) (are_plain_items c.vars c.body) p).1

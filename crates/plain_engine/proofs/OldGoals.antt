@@ -8,14 +8,14 @@ use Rattle.fcp_model.specs.declared.term.Term as source
 use Rattle.fcp_model.specs.declared.source.Call.{Call}
 use Rattle.fcp_model.specs.declared.source.Call.TheVariants.{User, Unify, Assign, Same, NotSame, Compare}
 use Rattle.fcp_model.specs.declared.source.Item.{Item}
-use Rattle.fcp_model.specs.declared.loaded.Head.{Head}
-use Rattle.fcp_model.specs.Heads.{same_head}
-use Rattle.fcp_model.specs.Places.{Variable, placed}
+use Rattle.fcp_model.specs.declared.loaded.ProcedureName.{ProcedureName}
+use Rattle.fcp_model.specs.ProcedureNames.{same_procedure}
+use Rattle.fcp_model.specs.Places.{Variable, placed, is_older_process}
 use Rattle.fcp_model.specs.Terms.{Term, rename}
 use Rattle.fcp_model.specs.Programs.{Goal, user, true', unifies, assigns, rename_goal}
 use Rattle.fcp_model.specs.States as run
 use Rattle.fcp_model.specs.Events.{made_ready}
-use Rattle.fcp_model.specs.WaitingProcesses.{with_process, is_older_process}
+use Rattle.fcp_laws.specs.WaitingProcesses.{with_process}
 use Rattle.fcp_model.specs.Ranks.{Mentions}
 use Rattle.fcp_model.specs.Translation.{term_of, term_step, head_called, user_goal, goal_of, goals_of}
 use Rattle.fcp_model.specs.FirstForm.{is_flat, flat_step, is_plain_call, is_true, is_called, are_called}
@@ -89,23 +89,23 @@ module _ (vars n : ℕ) where
       let parts = and_parts (is_flat vars t) (list_all (is_flat vars) ts) h in
       (flat_old t parts.0, all_flat_old ts parts.1)
 
-module _ (hs : List Head) (n : ℕ) where
+module _ (hs : List ProcedureName) (n : ℕ) where
   abbrev IsOldHere : Goal ℕ → Type 0
   IsOldHere g = IsOldGoal (length hs) n (rename_goal (placed n) g)
 
-  user_old : (name : Sym) (k : ℕ) (ts : List (Term ℕ)) → (not (is_true name.0 k) && list_any (same_head (head_called name k)) hs) ≡ true
+  user_old : (name : Sym) (k : ℕ) (ts : List (Term ℕ)) → (not (is_true name.0 k) && list_any (same_procedure (head_called name k)) hs) ≡ true
       → AreOldTerms n (map (rename (placed n)) ts) → IsOldHere (user_goal hs name k ts)
   user_old name zero ts h i =
-      let parts = and_parts (not (is_true name.0 0)) (list_any (same_head (head_called name 0)) hs) h in
-      go name.0 parts.0 (any_found (same_head (head_called name 0)) hs parts.1)
+      let parts = and_parts (not (is_true name.0 0)) (list_any (same_procedure (head_called name 0)) hs) h in
+      go name.0 parts.0 (any_found (same_procedure (head_called name 0)) hs parts.1)
     where
-      go : (s : ℕ) → not (is_true s 0) ≡ true → position_or_len (same_head (head_called name 0)) hs < length hs
-          → IsOldHere (elim s [ zero ↦ true' | suc j ↦ user (position_or_len (same_head (head_called name 0)) hs) ts ])
+      go : (s : ℕ) → not (is_true s 0) ≡ true → position_or_len (same_procedure (head_called name 0)) hs < length hs
+          → IsOldHere (elim s [ zero ↦ true' | suc j ↦ user (position_or_len (same_procedure (head_called name 0)) hs) ts ])
       go zero e f = cc
       go (suc j) e f = (f, i)
   user_old name (suc k) ts h i =
-      let parts = and_parts (not (is_true name.0 (suc k))) (list_any (same_head (head_called name (suc k))) hs) h in
-      (any_found (same_head (head_called name (suc k))) hs parts.1, i)
+      let parts = and_parts (not (is_true name.0 (suc k))) (list_any (same_procedure (head_called name (suc k))) hs) h in
+      (any_found (same_procedure (head_called name (suc k))) hs parts.1, i)
 
   call_old : (vars : ℕ) (call : Call) → is_plain_call vars call ≡ true → is_called hs call ≡ true → IsOldHere (goal_of hs call)
   call_old vars (User name args) plain called =
@@ -126,7 +126,7 @@ module _ (hs : List Head) (n : ℕ) where
       (call_old vars item.call one.0 two.0, items_old vars (suc k) items one.1 two.1)
 
 -- the processes that an entry makes for plain items that call procedures of the module
-pub child_goals_old : (hs : List Head) (n k vars : ℕ) (items : List Item) → ArePlainItems vars items → are_called hs items ≡ true
+pub child_goals_old : (hs : List ProcedureName) (n k vars : ℕ) (items : List Item) → ArePlainItems vars items → are_called hs items ≡ true
     → AreOldGoals (length hs) n (run.processes_of n k (map (rename_goal (placed n)) (goals_of hs items)))
 child_goals_old hs n k vars items plain called =
     items_old hs n vars k items (and_parts (nat_le (length items) 256) (list_all (λ i. is_plain_call vars i.call) items) plain).1 called

@@ -3,7 +3,7 @@ use Rattle.std.proofs.Common.{◌≡◌, ℕ, suc, ◌+◌, ◌<◌, ◌≤◌, 
 use Rattle.std.specs.Prelude.{◌*◌, codes}
 use Rattle.std.proofs.lemmas.List.{map-append, length-map, length_push}
 use Rattle.fcp_model.specs.declared.run.Place.{Place}
-use Rattle.fcp_model.specs.Heads.{heads_in}
+use Rattle.fcp_model.specs.ProcedureNames.{procedure_names}
 use Rattle.fcp_model.specs.Places.{Variable, places_among}
 use Rattle.fcp_model.specs.Terms.{Bindings}
 use Rattle.fcp_model.specs.Programs.{Program}
@@ -11,15 +11,16 @@ use Rattle.fcp_model.specs.States as run
 use Rattle.fcp_model.specs.Decisions.{Decision, commits, decides_fail, waits_on, Decides, decide}
 use Rattle.fcp_model.specs.Cells.{cells}
 use Rattle.fcp_model.specs.Events.{Event, event_of}
-use Rattle.fcp_model.specs.OneWorker.{Stand, passes, makes, after_event, begin, front_ruling, ruling}
+use Rattle.fcp_model.specs.OneWorker.{Schedule, passes, makes, after_event, begin, front_ruling, ruling}
 use Rattle.fcp_model.specs.Spelling.{Bytes}
 use Rattle.fcp_model.specs.LogText.{event_line, event_lines, both_texts}
 use Rattle.fcp_model.specs.Translation.{program_of, start_of, started_goals}
-use Rattle.fcp_model.specs.Stands.{NamesRise, IsSoundStand}
-use Rattle.fcp_model.specs.WaitingProcesses.{is_waiting, waiting_of, with_process}
-use Rattle.fcp_model.proofs.Leading.{led_on}
-use Rattle.fcp_model.proofs.SoundStands.{start_ordered, begin_sound, leads_sound, front_is_ready}
-use Rattle.fcp_model.proofs.WaitingProcesses.{waiting_after_hang}
+use Rattle.fcp_model.specs.LawfulStates.{NamesRise}
+use Rattle.fcp_laws.specs.Schedules.{IsSoundSchedule}
+use Rattle.fcp_laws.specs.WaitingProcesses.{is_waiting, waiting_of, with_process}
+use Rattle.fcp_laws.proofs.Leading.{led_on}
+use Rattle.fcp_laws.proofs.SoundSchedules.{start_ordered, begin_sound, leads_sound, front_is_ready}
+use Rattle.fcp_laws.proofs.WaitingProcesses.{waiting_after_hang}
 use Rattle.plain_engine.specs.declared.process.Process.{Process}
 use Rattle.plain_engine.specs.declared.engine.Task.{Task}
 use Rattle.plain_engine.specs.declared.engine.Engine.{Engine}
@@ -29,7 +30,7 @@ use Rattle.plain_engine.specs.Additions.{Gives, Adds, hang_line, fail_line}
 use Rattle.plain_engine.specs.Processes.{process_of, waiting_process}
 use Rattle.plain_engine.specs.Engines.{AreOldGoals, IsOldGoal, IsReached, HasRoom, HasFailed, Passes, Hangs, Fails}
 use Rattle.plain_engine.proofs.AddedTexts.{gives_known, adds_both}
-use Rattle.plain_engine.proofs.FrontRulings.{IsPlainStand, front_ruled, front_passes, front_makes}
+use Rattle.plain_engine.proofs.FrontRulings.{IsPlainSchedule, front_ruled, front_passes, front_makes}
 use Rattle.plain_engine.proofs.Sounds.{are_among_more}
 use Rattle.plain_engine.proofs.OldGoals.{AreOldGoals-more, AreOldGoals-append, AreOldGoals-with}
 use Rattle.plain_engine.proofs.WaitingOrder.{rise_filter}
@@ -73,16 +74,16 @@ module _ (t : Task) (p : Process) (e : Engine) (r : IsReached t (process_of p �
   abbrev pub rest : List run.Process
   rest = map process_of e.queue.items
 
-  pub plain : IsPlainStand r.at
+  pub plain : IsPlainSchedule r.at
   plain = record { mode = r.stands.mode; controls = r.stands.controls }
 
-  pub sound_stand : IsSoundStand r.at
-  sound_stand = leads_sound m t.limits (begin (start_of t.loaded.now t.goal.now) []) r.events r.at
+  pub sound_schedule : IsSoundSchedule r.at
+  sound_schedule = leads_sound m t.limits (begin (start_of t.loaded.now t.goal.now) []) r.events r.at
       (begin_sound (start_of t.loaded.now t.goal.now) [] (start_ordered (length t.goal.now.names) (started_goals t.loaded.now t.goal.now))) r.leads
 
   -- the names of the waiting processes rise
   pub waiting_rise : NamesRise (map waiting_process e.waiting.items)
-  waiting_rise = subst NamesRise r.stands.waiting (rise_filter (λ q. is_waiting q.status) r.at.state.processes sound_stand.ordered.rise)
+  waiting_rise = subst NamesRise r.stands.waiting (rise_filter (λ q. is_waiting q.status) r.at.state.processes sound_schedule.ordered.rise)
 
   pub queue_is : r.at.queue ≡ process_of p ∷ rest
   queue_is = r.stands.queue
@@ -94,15 +95,15 @@ module _ (t : Task) (p : Process) (e : Engine) (r : IsReached t (process_of p �
       (omega (arith, room.commits, r.stands.commits)) (omega (arith, room.moves, r.stands.moves)) (omega (arith, room.passed, r.stands.passed, long))
       n d (ap (λ (s : Bindings). decide n m s (process_of p).goal) r.stands.bound ∙ is)
 
-  pub old_front : IsOldGoal (length (heads_in t.loaded.now.clauses)) e.moves (process_of p).goal × AreOldGoals (length (heads_in t.loaded.now.clauses)) e.moves rest
-  old_front = subst (AreOldGoals (length (heads_in t.loaded.now.clauses)) e.moves) queue_is r.old_queue
+  pub old_front : IsOldGoal (length (procedure_names t.loaded.now.clauses)) e.moves (process_of p).goal × AreOldGoals (length (procedure_names t.loaded.now.clauses)) e.moves rest
+  old_front = subst (AreOldGoals (length (procedure_names t.loaded.now.clauses)) e.moves) queue_is r.old_queue
 
   -- the front went to the back
   pub pass_reached : (new : Engine) → Passes e new p → HasRoom t e → (d : Decision) → Decides m (bound_of e.store) (process_of p).goal d → t.limits.cells < e.cells + cells m (process_of p).goal d
       → IsReached t [] new
   pass_reached new did room d (n, is) large =
       let ev : Event = event_of m r.at.state (process_of p) d in
-      let to : Stand = record r.at { queue = rest ++ process_of p ∷ []; passed = r.at.passed + 1 } in
+      let to : Schedule = record r.at { queue = rest ++ process_of p ∷ []; passed = r.at.passed + 1 } in
       let more : t.limits.cells < r.at.cells + ev.cells = omega (arith, large, r.stands.cells, event_cells m r.at.state (process_of p) d) in
       let says : ruling n m t.limits r.at ≡ Some (passes to) = ruled room n d is ∙ ap Some (front_passes m t.limits r.at plain (process_of p) rest queue_is ev more) in
       record {
@@ -123,8 +124,8 @@ module _ (t : Task) (p : Process) (e : Engine) (r : IsReached t (process_of p �
         };
         lines = subst (λ x. Adds (codes "logix log 1\n") x.items (λ n. event_lines n t.names.now r.events)) (sym did.text) r.lines;
         sound = subst (λ k. IsSound k (bound_of new.store)) (sym did.moves) (subst (λ s. IsSound e.moves (bound_of s)) (sym did.store) r.sound);
-        old_queue = subst (λ k. AreOldGoals (length (heads_in t.loaded.now.clauses)) k (rest ++ process_of p ∷ [])) (sym did.moves) (AreOldGoals-append _ e.moves rest (process_of p ∷ []) old_front.1 (old_front.0, tt));
-        old_waiting = subst (λ k. AreOldGoals (length (heads_in t.loaded.now.clauses)) k (waiting_of r.at.state.processes)) (sym did.moves) r.old_waiting;
+        old_queue = subst (λ k. AreOldGoals (length (procedure_names t.loaded.now.clauses)) k (rest ++ process_of p ∷ [])) (sym did.moves) (AreOldGoals-append _ e.moves rest (process_of p ∷ []) old_front.1 (old_front.0, tt));
+        old_waiting = subst (λ k. AreOldGoals (length (procedure_names t.loaded.now.clauses)) k (waiting_of r.at.state.processes)) (sym did.moves) r.old_waiting;
         within = omega (arith, r.within, did.cells);
       }
 
@@ -133,13 +134,13 @@ module _ (t : Task) (p : Process) (e : Engine) (r : IsReached t (process_of p �
       → places ≡ places_among rs → cost ≡ 3 * length places → e.cells + cost ≤ t.limits.cells → IsReached t [] new
   hang_reached new places cost did room rs (n, is) wait costs fits =
       let ev : Event = event_of m r.at.state (process_of p) (waits_on rs) in
-      let to : Stand = after_event r.at rest ev in
+      let to : Schedule = after_event r.at rest ev in
       let price : cost ≡ 3 * length (places_among rs) = costs ∙ ap (λ ps. 3 * length ps) wait in
       let enough : r.at.cells + ev.cells ≤ t.limits.cells = omega (arith, fits, r.stands.cells, price) in
       let says : ruling n m t.limits r.at ≡ Some (makes ev to) = ruled room n (waits_on rs) is ∙ ap Some (front_makes m t.limits r.at plain (process_of p) rest queue_is ev enough) in
-      let front = front_is_ready r.at sound_stand (process_of p) rest queue_is in
+      let front = front_is_ready r.at sound_schedule (process_of p) rest queue_is in
       let asleep : waiting_of ev.after.processes ≡ map waiting_process new.waiting.items =
-      waiting_after_hang (places_among rs) (process_of p) r.at.state.processes sound_stand.ordered.rise front.0 front.1
+      waiting_after_hang (places_among rs) (process_of p) r.at.state.processes sound_schedule.ordered.rise front.0 front.1
       ∙ (ap (with_process (record (process_of p) { status = run.waiting (places_among rs) })) r.stands.waiting
       ∙ (ap (λ ps. with_process (record (process_of p) { status = run.waiting ps }) (map waiting_process e.waiting.items)) (sym wait) ∙ sym did.waiting)) in
       let same_queue : to.queue ≡ rest = append-nil (rest ++ []) ∙ append-nil rest in
@@ -164,9 +165,9 @@ module _ (t : Task) (p : Process) (e : Engine) (r : IsReached t (process_of p �
         };
         lines = line_added t.names.now r.events ev (codes "logix log 1\n") e.text.items new.text.items (hang_line (suc r.at.state.entries) p.name (places_among rs)) r.lines (gives_known _) line;
         sound = subst (λ k. IsSound k (bound_of new.store)) (sym did.moves) (subst (λ s. IsSound (e.moves + 1) (bound_of s)) (sym did.store) (sound_later e.moves (bound_of e.store) r.sound));
-        old_queue = subst (λ q. AreOldGoals (length (heads_in t.loaded.now.clauses)) new.moves q) (sym same_queue) (AreOldGoals-more _ e.moves new.moves rest (omega (arith, did.moves)) old_front.1);
+        old_queue = subst (λ q. AreOldGoals (length (procedure_names t.loaded.now.clauses)) new.moves q) (sym same_queue) (AreOldGoals-more _ e.moves new.moves rest (omega (arith, did.moves)) old_front.1);
         old_waiting = AreOldGoals-more _ e.moves new.moves (waiting_of ev.after.processes) (omega (arith, did.moves))
-            (subst (AreOldGoals (length (heads_in t.loaded.now.clauses)) e.moves) (sym (waiting_after_hang (places_among rs) (process_of p) r.at.state.processes sound_stand.ordered.rise front.0 front.1))
+            (subst (AreOldGoals (length (procedure_names t.loaded.now.clauses)) e.moves) (sym (waiting_after_hang (places_among rs) (process_of p) r.at.state.processes sound_schedule.ordered.rise front.0 front.1))
             (AreOldGoals-with _ e.moves (record (process_of p) { status = run.waiting (places_among rs) }) (waiting_of r.at.state.processes) old_front.0 r.old_waiting));
         within = omega (arith, fits, did.used_cells);
       }
@@ -175,7 +176,7 @@ module _ (t : Task) (p : Process) (e : Engine) (r : IsReached t (process_of p �
   pub fail_reached : (new : Engine) → Fails e new p → HasRoom t e → (rs : List Variable) → Decides m (bound_of e.store) (process_of p).goal (decides_fail rs) → length r.events ≡ r.at.moves → HasFailed t new
   fail_reached new did room rs (n, is) counted =
       let ev : Event = event_of m r.at.state (process_of p) (decides_fail rs) in
-      let to : Stand = after_event r.at rest ev in
+      let to : Schedule = after_event r.at rest ev in
       let enough : r.at.cells + ev.cells ≤ t.limits.cells = omega (arith, r.within, r.stands.cells) in
       let says : ruling n m t.limits r.at ≡ Some (makes ev to) = ruled room n (decides_fail rs) is ∙ ap Some (front_makes m t.limits r.at plain (process_of p) rest queue_is ev enough) in
       let number : suc r.at.state.entries ≡ e.moves + 1 = omega (arith, r.stands.entries) in

@@ -13,24 +13,24 @@ use Rattle.fcp_model.specs.States.{State}
 use Rattle.fcp_model.specs.Events.{Event}
 use Rattle.fcp_model.specs.Runs.{last_state}
 use Rattle.fcp_model.specs.Bounds.{is_move}
-use Rattle.fcp_model.specs.OneWorker.{Stand, IsOneWorkerRun}
-use Rattle.fcp_model.specs.Endings.{outcome_at}
+use Rattle.fcp_model.specs.OneWorker.{Schedule, IsOneWorkerRun}
+use Rattle.fcp_laws.specs.Endings.{outcome_at}
 use Rattle.fcp_model.specs.Outcomes.{Ends}
 use Rattle.fcp_model.specs.Spelling.{Bytes}
 use Rattle.fcp_model.specs.LogText.{event_lines, log_text}
 use Rattle.fcp_model.specs.ReportText.{outcome_word, variable_lines, not_reached_lines, snapshots_at, snapshot_texts, report_text}
-use Rattle.fcp_model.specs.Reports.{IsReport}
+use Rattle.fcp_model.specs.Reports.{IsOneWorkerReport}
 use Rattle.fcp_model.specs.Translation.{program_of, start_of, started_goals}
-use Rattle.fcp_model.proofs.SoundStands.{start_ordered}
-use Rattle.fcp_model.proofs.StandCounts.{leads_counts}
-use Rattle.fcp_model.proofs.EndingOutcomes.{ends_so}
+use Rattle.fcp_laws.proofs.SoundSchedules.{start_ordered}
+use Rattle.fcp_laws.proofs.ScheduleCounts.{leads_counts}
+use Rattle.fcp_laws.proofs.EndingOutcomes.{ends_so}
 use Rattle.plain_engine.specs.declared.engine.Task.{Task}
 use Rattle.plain_engine.specs.declared.engine.Engine.{Engine}
 use Rattle.plain_engine.specs.declared.report.Report.{Report}
 use Rattle.plain_engine.specs.Words.{bound_of}
 use Rattle.plain_engine.specs.Additions.{Gives, Adds}
 use Rattle.plain_engine.specs.EndTexts.{end_lines, AddsEnd}
-use Rattle.plain_engine.specs.Engines.{StandsAt, HasEnded, HasFailed}
+use Rattle.plain_engine.specs.Engines.{ScheduledAt, HasEnded, HasFailed}
 use Rattle.plain_engine.proofs.Counting.{AreMoves, all_moves, events_counted}
 use Rattle.plain_engine.proofs.AddedTexts.{gives_known, gives_both, gives_map, gives_same}
 
@@ -57,8 +57,8 @@ arranged : (head lines ending number feed saying word shown : Bytes) →
     (head ++ lines ++ ending ++ number ++ feed) ++ ((saying ++ word ++ feed) ++ (shown ++ ([] ++ []))) ≡ (head ++ lines) ++ (ending ++ number ++ feed ++ saying ++ word ++ feed) ++ shown
 arranged head lines ending number feed saying word shown = simp (append_assoc, append-nil) refl
 
--- the report of a run without controls that ended at a stand
-module _ (t : Task) (events : List Event) (at : Stand) (run_is : IsOneWorkerRun (program_of t.loaded.now) t.limits (start_of t.loaded.now t.goal.now) [] events at) where
+-- the report of a run without controls that ended at a schedule
+module _ (t : Task) (events : List Event) (at : Schedule) (run_is : IsOneWorkerRun (program_of t.loaded.now) t.limits (start_of t.loaded.now t.goal.now) [] events at) where
   abbrev m : Program
   m = program_of t.loaded.now
 
@@ -84,7 +84,7 @@ module _ (t : Task) (events : List Event) (at : Stand) (run_is : IsOneWorkerRun 
 
   pub reported : (moves : ℕ) (bound : Bindings) (o : Outcome) (log text : Bytes) → at.moves ≡ moves → at.state.bound ≡ bound → o ≡ outcome_at t.limits at
       → Adds (codes "logix log 1\n") log (λ n. event_lines n t.names.now events) → AddsEnd log text t.names.now t.goal.now.names bound moves o
-      → IsReport m s t.limits [] t.names.now t.goal.now.names o text
+      → IsOneWorkerReport m s t.limits [] t.names.now t.goal.now.names o text
   reported moves bound o log text counted found is lines end =
       let reached : ℕ = length {A = Control} [] - length at.controls in
       let made : length events ≡ moves = moves_made ∙ counted in
@@ -104,21 +104,21 @@ module _ (t : Task) (events : List Event) (at : Stand) (run_is : IsOneWorkerRun 
       }
 
 -- the two ends
-pub report_ended : {E : Type 0} (t : Task) (e : Engine) (h : HasEnded t e) (o : Outcome) (r : Result Report E) → ((at : Stand) → StandsAt [] e at → o ≡ outcome_at t.limits at)
+pub report_ended : {E : Type 0} (t : Task) (e : Engine) (h : HasEnded t e) (o : Outcome) (r : Result Report E) → ((at : Schedule) → ScheduledAt [] e at → o ≡ outcome_at t.limits at)
     → IfOk r (λ r. r.outcome ≡ o) → IfOk r (λ r. AddsEnd e.text.items r.text.items t.names.now t.goal.now.names (bound_of e.store) e.moves o)
-    → IfOk r (λ r. IsReport (program_of t.loaded.now) (start_of t.loaded.now t.goal.now) t.limits [] t.names.now t.goal.now.names r.outcome r.text.items)
+    → IfOk r (λ r. IsOneWorkerReport (program_of t.loaded.now) (start_of t.loaded.now t.goal.now) t.limits [] t.names.now t.goal.now.names r.outcome r.text.items)
 report_ended t e h o (Err x) is f g = tt
 report_ended t e h o (Ok x) is f g =
     let h' = h.reached in
-    subst (λ o. IsReport (program_of t.loaded.now) (start_of t.loaded.now t.goal.now) t.limits [] t.names.now t.goal.now.names o x.text.items) (sym f)
+    subst (λ o. IsOneWorkerReport (program_of t.loaded.now) (start_of t.loaded.now t.goal.now) t.limits [] t.names.now t.goal.now.names o x.text.items) (sym f)
     (reported t h'.events h'.at (record { leads = h'.leads; steps = h.steps; ended = h.ended }) e.moves (bound_of e.store) o e.text.items x.text.items h'.stands.moves h'.stands.bound (is h'.at h'.stands) h'.lines g)
 
 pub report_failed : {E : Type 0} (t : Task) (e : Engine) (h : HasFailed t e) (r : Result Report E)
     → IfOk r (λ r. r.outcome ≡ Failed) → IfOk r (λ r. AddsEnd e.text.items r.text.items t.names.now t.goal.now.names (bound_of e.store) e.moves Failed)
-    → IfOk r (λ r. IsReport (program_of t.loaded.now) (start_of t.loaded.now t.goal.now) t.limits [] t.names.now t.goal.now.names r.outcome r.text.items)
+    → IfOk r (λ r. IsOneWorkerReport (program_of t.loaded.now) (start_of t.loaded.now t.goal.now) t.limits [] t.names.now t.goal.now.names r.outcome r.text.items)
 report_failed t e h (Err x) f g = tt
 report_failed t e h (Ok x) f g =
     let failed : Failed ≡ outcome_at t.limits h.at = let mode = h.mode in rw mode refl in
     let counted = sym (moves_made t h.events h.at h.run_is) ∙ h.entries in
-    subst (λ o. IsReport (program_of t.loaded.now) (start_of t.loaded.now t.goal.now) t.limits [] t.names.now t.goal.now.names o x.text.items) (sym f)
+    subst (λ o. IsOneWorkerReport (program_of t.loaded.now) (start_of t.loaded.now t.goal.now) t.limits [] t.names.now t.goal.now.names o x.text.items) (sym f)
     (reported t h.events h.at h.run_is e.moves (bound_of e.store) Failed e.text.items x.text.items counted h.bound failed h.lines g)

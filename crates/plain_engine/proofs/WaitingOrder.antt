@@ -5,8 +5,9 @@ use Rattle.std.specs.List.Sorted.{IsPartitionedBy}
 use Rattle.std.proofs.lemmas.Bool.{ltb-true, eqb-true, lt-ltb, eq-eqb, and_parts, and_from, or_cases, or_left, or_right, both_ways, not-true, not-false, not_from_false, false_from_ne_true}
 use Rattle.fcp_model.specs.declared.run.Proc.{Proc}
 use Rattle.fcp_model.specs.States as run
-use Rattle.fcp_model.specs.WaitingProcesses.{is_older_process, with_process}
-use Rattle.fcp_model.specs.Stands.{Each, NamesRise}
+use Rattle.fcp_model.specs.Places.{is_older_process}
+use Rattle.fcp_laws.specs.WaitingProcesses.{with_process}
+use Rattle.fcp_model.specs.LawfulStates.{Each, NamesRise}
 use Rattle.plain_engine.specs.declared.process.Waiting.{Waiting}
 use Rattle.plain_engine.specs.Processes.{waiting_process}
 

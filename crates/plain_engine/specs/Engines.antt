@@ -2,14 +2,14 @@
 use Rattle.std.specs.Prelude.{◌≡◌, ℕ, suc, ◌+◌, ◌≤◌, ◌<◌, true, not, List, [], ◌∷◌, ◌++◌, map, filter, length, ◌-◌, slice_get, Some, codes}
 use Rattle.fcp_model.specs.declared.run.Place.{Place}
 use Rattle.fcp_model.specs.declared.source.Clause as read
-use Rattle.fcp_model.specs.Heads.{heads_in}
+use Rattle.fcp_model.specs.ProcedureNames.{procedure_names}
 use Rattle.fcp_model.specs.Places.{Variable}
 use Rattle.fcp_model.specs.Terms.{Term}
 use Rattle.fcp_model.specs.Programs.{Goal, user, true', unifies, assigns, clauses_of}
 use Rattle.fcp_model.specs.States as run
 use Rattle.fcp_model.specs.Events.{Event, settled, is_woken, made_ready, children_of}
-use Rattle.fcp_model.specs.OneWorker.{Stand, Leads, IsOneWorkerRun, ruling, begin, ends}
-use Rattle.fcp_model.specs.WaitingProcesses.{waiting_of, with_process}
+use Rattle.fcp_model.specs.OneWorker.{Schedule, Leads, IsOneWorkerRun, ruling, begin, ends}
+use Rattle.fcp_laws.specs.WaitingProcesses.{waiting_of, with_process}
 use Rattle.fcp_model.specs.LogText.{event_lines}
 use Rattle.fcp_model.specs.Ranks.{Mentions}
 use Rattle.fcp_model.specs.Translation.{program_of, start_of, clause_of}
@@ -53,8 +53,8 @@ abbrev pub AreOldGoals : ℕ → ℕ → List run.Process → Type 0
 AreOldGoals procedures n [] = Unit {0}
 AreOldGoals procedures n (p ∷ ps) = IsOldGoal procedures n p.goal × AreOldGoals procedures n ps
 
--- the engine's fields are those of the stand, where `front` was taken from the front of the queue
-pub record StandsAt (front : List run.Process) (e : Engine) (at : Stand) : Type 0 where
+-- the engine's fields are those of the schedule, where `front` was taken from the front of the queue
+pub record ScheduledAt (front : List run.Process) (e : Engine) (at : Schedule) : Type 0 where
   pub mode : at.state.mode ≡ run.is_open
   pub entries : at.state.entries ≡ e.moves
   pub bound : at.state.bound ≡ bound_of e.store
@@ -69,19 +69,19 @@ pub record StandsAt (front : List run.Process) (e : Engine) (at : Stand) : Type 
 -- the run of one worker leads to where the engine stands, and the text is that of its log
 pub record IsReached (t : Task) (front : List run.Process) (e : Engine) : Type 0 where
   pub events : List Event
-  pub at : Stand
+  pub at : Schedule
   pub leads : Leads (program_of t.loaded.now) t.limits (begin (start_of t.loaded.now t.goal.now) []) events at
-  pub stands : StandsAt front e at
+  pub stands : ScheduledAt front e at
   pub lines : Adds (codes "logix log 1\n") e.text.items (λ n. event_lines n t.names.now events)
   pub sound : IsSound e.moves (bound_of e.store)
-  pub old_queue : AreOldGoals (length (heads_in t.loaded.now.clauses)) e.moves at.queue
-  pub old_waiting : AreOldGoals (length (heads_in t.loaded.now.clauses)) e.moves (waiting_of at.state.processes)
+  pub old_queue : AreOldGoals (length (procedure_names t.loaded.now.clauses)) e.moves at.queue
+  pub old_waiting : AreOldGoals (length (procedure_names t.loaded.now.clauses)) e.moves (waiting_of at.state.processes)
   pub within : e.cells ≤ t.limits.cells
 
 -- what a commit has to find
 pub record MayCommit (t : Task) (e : Engine) (p : Process) (clause : ℕ) (bindings : List Binding) (cells : ℕ) : Type 0 where
   pub task : IsTask t
-  pub procedure : p.procedure < length (heads_in t.loaded.now.clauses)
+  pub procedure : p.procedure < length (procedure_names t.loaded.now.clauses)
   pub first : 1 ≤ clause
   pub there : clause ≤ length (clauses_of (program_of t.loaded.now) p.procedure)
   pub fresh : AreFresh (bound_of e.store) (settled (suc e.moves) (binds_of bindings))
@@ -93,11 +93,11 @@ pub record MayCommit (t : Task) (e : Engine) (p : Process) (clause : ℕ) (bindi
 -- what a commit makes
 pub record Commits (t : Task) (old new : Engine) (p : Process) (clause : ℕ) (bindings : List Binding) (cells : ℕ) : Type 0 where
   pub used : read.Clause
-  pub is_used : slice_get (clauses_of (program_of t.loaded.now) p.procedure) (clause - 1) ≡ Some (clause_of (heads_in t.loaded.now.clauses) used)
+  pub is_used : slice_get (clauses_of (program_of t.loaded.now) p.procedure) (clause - 1) ≡ Some (clause_of (procedure_names t.loaded.now.clauses) used)
   pub position : ℕ
   pub in_text : slice_get t.loaded.now.clauses position ≡ Some used
   pub bound : bound_of new.store ≡ bound_of old.store ++ settled (old.moves + 1) (binds_of bindings)
-  pub queue : map process_of new.queue.items ≡ map process_of old.queue.items ++ children_of (old.moves + 1) (Some (clause_of (heads_in t.loaded.now.clauses) used)) ++ map made_ready (filter (λ q. is_woken (binds_of bindings) q.status) (map waiting_process old.waiting.items))
+  pub queue : map process_of new.queue.items ≡ map process_of old.queue.items ++ children_of (old.moves + 1) (Some (clause_of (procedure_names t.loaded.now.clauses) used)) ++ map made_ready (filter (λ q. is_woken (binds_of bindings) q.status) (map waiting_process old.waiting.items))
   pub waiting : map waiting_process new.waiting.items ≡ filter (λ q. not (is_woken (binds_of bindings) q.status)) (map waiting_process old.waiting.items)
   pub text : AddsCommit old.text.items new.text.items t.names.now (bound_of new.store) (old.moves + 1) p.name clause (binds_of bindings) (map (λ q. q.name) (filter (λ q. is_woken (binds_of bindings) q.status) (map waiting_process old.waiting.items)))
   pub passed : new.passed ≡ 0
@@ -148,7 +148,7 @@ pub record HasEnded (t : Task) (e : Engine) : Type 0 where
 -- the run has ended with a fail
 pub record HasFailed (t : Task) (e : Engine) : Type 0 where
   pub events : List Event
-  pub at : Stand
+  pub at : Schedule
   pub run_is : IsOneWorkerRun (program_of t.loaded.now) t.limits (start_of t.loaded.now t.goal.now) [] events at
   pub mode : at.state.mode ≡ run.is_failed
   pub controls : at.controls ≡ []

@@ -4,7 +4,7 @@ ghost use Rattle.fcp_model.specs.Terms.{rename};
 ghost use Rattle.fcp_model.specs.Translation.{term_of, goal_of, goals_of};
 ghost use Rattle.fcp_model.specs.Programs.{rename_goal};
 ghost use Rattle.fcp_model.specs.States.{processes_of};
-ghost use Rattle.fcp_model.specs.Heads.{heads_in};
+ghost use Rattle.fcp_model.specs.ProcedureNames.{procedure_names};
 ghost use Rattle.fcp_model.specs.FirstForm.{are_called, is_called};
 ghost use Rattle.plain_engine.specs.Words.{variable_of, term_of_word};
 ghost use Rattle.plain_engine.specs.Plain.{IsFlat, AreFlat, IsPlainCall, ArePlainItems};
@@ -65,8 +65,8 @@ fn child(
     item: &Item,
 ) -> Result<Process, NoMemory>
     requires plain { IsPlainCall vars item.now.call }
-    requires called { is_called (heads_in loaded.now.clauses) item.now.call ≡ true }
-    ensures { IfOk result (λ p. process_of p ≡ child_of name (rename_goal (placed name.entry) (goal_of (heads_in loaded.now.clauses) item.now.call))) }
+    requires called { is_called (procedure_names loaded.now.clauses) item.now.call ≡ true }
+    ensures { IfOk result (λ p. process_of p ≡ child_of name (rename_goal (placed name.entry) (goal_of (procedure_names loaded.now.clauses) item.now.call))) }
 {
     let Call::User {
         name: procedure,
@@ -96,8 +96,8 @@ pub(crate) fn push_children(
     queue: &mut VecDeque<Process>,
 ) -> Result<(), NoMemory>
     requires plain { ArePlainItems vars items.now }
-    requires called { are_called (heads_in loaded.now.clauses) items.now ≡ true }
-    ensures { OnOk result (map process_of queue.new.items ≡ map process_of queue.old.items ++ processes_of entry 1 (map (rename_goal (placed entry)) (goals_of (heads_in loaded.now.clauses) items.now))) }
+    requires called { are_called (procedure_names loaded.now.clauses) items.now ≡ true }
+    ensures { OnOk result (map process_of queue.new.items ≡ map process_of queue.old.items ++ processes_of entry 1 (map (rename_goal (placed entry)) (goals_of (procedure_names loaded.now.clauses) items.now))) }
 {
     for (at, item) in items.iter().enumerate() {
         let name = Proc {

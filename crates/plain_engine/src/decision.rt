@@ -1,5 +1,5 @@
 ghost use Rattle.std.specs.Prelude.{ℕ, ◌≡◌, ◌<◌, ◌≤◌, ◌-◌, Some, length, slice_get, map, insert, MatchOption, IfOk, OnOk, All};
-ghost use Rattle.fcp_model.specs.Heads.{heads_in};
+ghost use Rattle.fcp_model.specs.ProcedureNames.{procedure_names};
 ghost use Rattle.fcp_model.specs.Places.{inserted, places_among};
 ghost use Rattle.fcp_model.specs.Translation.{program_of, clause_of};
 ghost use Rattle.fcp_model.specs.Programs.{clauses_of};
@@ -51,10 +51,10 @@ fn position_for(places: &[Place], place: Place) -> Option<usize>
 
 /// The clause by which a goal commits, numbered from 1 in its procedure.
 pub(crate) fn clause_numbered(loaded: &Loaded, procedure: u32, number: u32) -> &Clause
-    requires known { procedure < length (heads_in loaded.now.clauses) }
+    requires known { procedure < length (procedure_names loaded.now.clauses) }
     requires first { 1 ≤ number }
     requires there { number ≤ length (clauses_of (program_of loaded.now) procedure) }
-    ensures clause { slice_get (clauses_of (program_of loaded.now) procedure) (number - 1) ≡ Some (clause_of (heads_in loaded.now.clauses) result.now) }
+    ensures clause { slice_get (clauses_of (program_of loaded.now) procedure) (number - 1) ≡ Some (clause_of (procedure_names loaded.now.clauses) result.now) }
     ensures in_text { (position : ℕ) × (slice_get loaded.now.clauses position ≡ Some result.now) }
 {
     let positions = loaded.clauses(procedure);
@@ -98,7 +98,7 @@ pub fn decide(
     args: &[Word],
 ) -> Result<Decision, NoMemory>
     requires plain { IsPlain loaded.now }
-    requires known { procedure < length (heads_in loaded.now.clauses) }
+    requires known { procedure < length (procedure_names loaded.now.clauses) }
     requires sound { (n : ℕ) × IsSound n (bound_of store.now) × All (IsOld n) args.now }
     ensures decided { IfOk result (DecidesAs (program_of loaded.now) (bound_of store.now) (goal_with procedure args.now)) }
     ensures kept { (n : ℕ) → IsSound n (bound_of store.now) → All (IsOld n) args.now

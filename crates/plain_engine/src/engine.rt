@@ -1,8 +1,8 @@
 ghost use Rattle.std.specs.Prelude.{◌≡◌, ◌+◌, ◌*◌, ◌≤◌, ◌<◌, ◌||◌, suc, nat_le, nat_lt, List, [], ◌∷◌, length, map, IfOk, OnOk, IfSome, IfNone};
-ghost use Rattle.fcp_model.specs.Heads.{heads_in};
+ghost use Rattle.fcp_model.specs.ProcedureNames.{procedure_names};
 ghost use Rattle.fcp_model.specs.Places.{Variable, places_among};
 ghost use Rattle.fcp_model.specs.Decisions.{commits, waits_on, Decides};
-ghost use Rattle.fcp_model.specs.Stands.{NamesRise};
+ghost use Rattle.fcp_model.specs.LawfulStates.{NamesRise};
 ghost use Rattle.fcp_model.specs.Translation.{program_of};
 ghost use Rattle.plain_engine.specs.Words.{binds_of, bound_of};
 ghost use Rattle.plain_engine.specs.Deciding.{Settles};
@@ -181,7 +181,7 @@ impl Engine {
         requires task { IsTask task.now }
         requires reached { IsReached task.now (process_of process ∷ []) self.old }
         requires room { HasRoom task.now self.old }
-        requires known { process.procedure < length (heads_in task.now.loaded.now.clauses) }
+        requires known { process.procedure < length (procedure_names task.now.loaded.now.clauses) }
         requires decided { (rs : List Variable) × Decides (program_of task.now.loaded.now) (bound_of self.old.store) (process_of process).goal (commits clause (binds_of bindings.now) rs) }
         requires settles { Settles self.old.moves (program_of task.now.loaded.now) (bound_of self.old.store) (process_of process).goal clause (binds_of bindings.now) }
         ensures { IfOk result (RuleGives task.now self.old.moves (suc (length self.old.queue.items)) self.old.passed self.new) }

@@ -1,7 +1,8 @@
 ghost use Rattle.std.specs.Prelude.{◌≡◌, ◌≤◌, ◌∷◌, ◌++◌, not, length, map, take, drop, OnOk};
 ghost use Rattle.fcp_model.specs.States as run;
-ghost use Rattle.fcp_model.specs.Stands.{NamesRise};
-ghost use Rattle.fcp_model.specs.WaitingProcesses.{with_process, is_older_process};
+ghost use Rattle.fcp_model.specs.LawfulStates.{NamesRise};
+ghost use Rattle.fcp_model.specs.Places.{is_older_process};
+ghost use Rattle.fcp_laws.specs.WaitingProcesses.{with_process};
 ghost use Rattle.plain_engine.specs.Processes.{waiting_process};
 
 use crate::Word;

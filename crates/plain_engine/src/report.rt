@@ -1,14 +1,14 @@
 ghost use Rattle.std.specs.Prelude.{◌≡◌, ◌≤◌, ◌++◌, [], length, IfOk, OnOk};
 ghost use Rattle.fcp_model.specs.Ranks.{Ranked};
-ghost use Rattle.fcp_model.specs.OneWorker.{Stand};
-ghost use Rattle.fcp_model.specs.Endings.{outcome_at};
+ghost use Rattle.fcp_model.specs.OneWorker.{Schedule};
+ghost use Rattle.fcp_laws.specs.Endings.{outcome_at};
 ghost use Rattle.fcp_model.specs.ReportText.{outcome_word, variable_line, variable_lines};
-ghost use Rattle.fcp_model.specs.Reports.{IsReport};
+ghost use Rattle.fcp_model.specs.Reports.{IsOneWorkerReport};
 ghost use Rattle.fcp_model.specs.Spelling.{name_at};
 ghost use Rattle.fcp_model.specs.Translation.{program_of, start_of};
 ghost use Rattle.plain_engine.specs.Additions.{Adds};
 ghost use Rattle.plain_engine.specs.EndTexts.{end_lines, AddsEnd};
-ghost use Rattle.plain_engine.specs.Engines.{IsTask, StandsAt, HasEnded, HasFailed};
+ghost use Rattle.plain_engine.specs.Engines.{IsTask, ScheduledAt, HasEnded, HasFailed};
 ghost use Rattle.plain_engine.specs.Words.{bound_of};
 
 use crate::engine::{Engine, Task};
@@ -31,7 +31,7 @@ pub struct Report {
 pub(crate) fn report_end(alloc: Global, task: &Task, engine: Engine) -> Result<Report, NoMemory>
     requires task { IsTask task.now }
     requires ended { HasEnded task.now engine }
-    ensures { IfOk result (λ r. IsReport (program_of task.now.loaded.now) (start_of task.now.loaded.now task.now.goal.now) task.now.limits [] task.now.names.now task.now.goal.now.names r.outcome r.text.items) }
+    ensures { IfOk result (λ r. IsOneWorkerReport (program_of task.now.loaded.now) (start_of task.now.loaded.now task.now.goal.now) task.now.limits [] task.now.names.now task.now.goal.now.names r.outcome r.text.items) }
 {
     let outcome = outcome_of(task.limits, &engine);
     close(alloc, task, engine, outcome)
@@ -41,14 +41,14 @@ pub(crate) fn report_end(alloc: Global, task: &Task, engine: Engine) -> Result<R
 pub(crate) fn report_fail(alloc: Global, task: &Task, engine: Engine) -> Result<Report, NoMemory>
     requires task { IsTask task.now }
     requires failed { HasFailed task.now engine }
-    ensures { IfOk result (λ r. IsReport (program_of task.now.loaded.now) (start_of task.now.loaded.now task.now.goal.now) task.now.limits [] task.now.names.now task.now.goal.now.names r.outcome r.text.items) }
+    ensures { IfOk result (λ r. IsOneWorkerReport (program_of task.now.loaded.now) (start_of task.now.loaded.now task.now.goal.now) task.now.limits [] task.now.names.now task.now.goal.now.names r.outcome r.text.items) }
 {
     close(alloc, task, engine, Outcome::Failed)
 }
 
 /// The outcome of a run that ended, without a fail, where the engine stands.
 fn outcome_of(limits: Limits, engine: &Engine) -> Outcome
-    ensures { (at : Stand) → StandsAt [] engine.now at → result ≡ outcome_at limits at }
+    ensures { (at : Schedule) → ScheduledAt [] engine.now at → result ≡ outcome_at limits at }
 {
     if engine.queue.is_empty() {
         if engine.waiting.is_empty() {

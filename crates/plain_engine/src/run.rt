@@ -1,7 +1,7 @@
 ghost use Rattle.std.specs.Prelude.{◌≡◌, [], true, IfOk};
 ghost use Rattle.fcp_model.specs.FirstForm.{bodies_called, goal_called};
 ghost use Rattle.fcp_model.specs.Translation.{program_of, start_of};
-ghost use Rattle.fcp_model.specs.Reports.{IsReport};
+ghost use Rattle.fcp_model.specs.Reports.{IsOneWorkerReport};
 ghost use Rattle.plain_engine.specs.Plain.{IsPlain, IsPlainGoal};
 
 use crate::Report;
@@ -24,7 +24,7 @@ pub fn run_goal(
     requires plain_goal { IsPlainGoal goal.now }
     requires called { bodies_called loaded.now ≡ true }
     requires goal_called { goal_called loaded.now goal.now ≡ true }
-    ensures { IfOk result (λ r. IsReport (program_of loaded.now) (start_of loaded.now goal.now) limits [] names.now goal.now.names r.outcome r.text.items) }
+    ensures { IfOk result (λ r. IsOneWorkerReport (program_of loaded.now) (start_of loaded.now goal.now) limits [] names.now goal.now.names r.outcome r.text.items) }
 {
     let task = Task {
         names,

@@ -1,5 +1,5 @@
 -- The laws, from their lemmas.
-use Rattle.fcp_model.proofs.EndingOutcomes.{ends_so}
+use Rattle.fcp_laws.proofs.EndingOutcomes.{ends_so}
 use Rattle.fcp_laws.proofs.LawfulRuns.{is_lawful_run}
 use Rattle.fcp_laws.proofs.one_worker_runs.Goals as goal
 

@@ -6,7 +6,7 @@ use Rattle.fcp_model.specs.Programs.{Program}
 use Rattle.fcp_model.specs.States.{State, start}
 use Rattle.fcp_model.specs.Events.{Event}
 use Rattle.fcp_model.specs.Runs.{last_state}
-use Rattle.fcp_model.specs.OneWorker.{Stand, rulings, begin}
+use Rattle.fcp_model.specs.OneWorker.{Schedule, rulings, begin}
 use Rattle.fcp_model.specs.ReportText.{outcome_word, variable_lines, report_text}
 use Rattle.fcp_rows.specs.Examples.{names, lines}
 use Rattle.fcp_rows.specs.Limits.{hundred_cells, hundred_cells_report}
@@ -51,13 +51,13 @@ abbrev from : State
 from = start 1 hundred_cells.goal
 
 -- where the run comes to
-abbrev came : Option (List Event × Stand)
+abbrev came : Option (List Event × Schedule)
 came = rulings 12 30 m hundred_cells.limits (begin from [])
 
 abbrev evs : List Event
 evs = events_of came
 
-abbrev last : Stand
+abbrev last : Schedule
 last = stand_of (begin from []) came
 
 log_lines : AreLines 30 names evs (take 10 (drop 1 hundred_cells_report))

@@ -1,21 +1,21 @@
 use Rattle.std.proofs.Common.{◌≡◌, map, not, ap, sym, ◌∙◌}
 use Rattle.std.proofs.lemmas.List.{length-map}
 use Rattle.std.specs.List.{position_or_len, list_any}
-use Rattle.fcp_model.specs.Heads.{head_of, same_head}
-use Rattle.fcp_model.proofs.HeadLists.{with_list, with_list-new, with_list-old, put_last, put_last_in, with_position_at}
+use Rattle.fcp_model.specs.ProcedureNames.{procedure_name, same_procedure}
+use Rattle.fcp_model.proofs.ProcedureNameLists.{with_list, with_list-new, with_list-old, put_last, put_last_in, with_position_at}
 use Rattle.fcp_model.proofs.loaded.note_clause.Goals as goal
 use Rattle.fcp_model.proofs.loaded.note_clause.Goals.{then-is_new+in-Ok-push, else-is_new}
 
 pub returns-in-Ok-push-2-clause-places : goal.returns-in-Ok-push-2-clause-places
 returns-in-Ok-push-2-clause-places c =
     let keys = c.args.heads.now.keys in
-    let h = head_of c.args.clause.now in
+    let h = procedure_name c.args.clause.now in
     let before = c.args.places.now.items in
     let after = c.if-is_new.places.items in
-    let place : c.in-Ok.number ≡ position_or_len (same_head h) keys =
-    c.in-Ok.ensures.index ∙ (λ i. position_or_len (same_head (record { name = c.args.clause.now.head; arity = c.len.ensures i })) keys) in
-    let new : c.in-Ok.is_new ≡ not (list_any (same_head h) keys) =
-    c.in-Ok.ensures.added ∙ (λ i. not (list_any (same_head (record { name = c.args.clause.now.head; arity = c.len.ensures i })) keys)) in
+    let place : c.in-Ok.number ≡ position_or_len (same_procedure h) keys =
+    c.in-Ok.ensures.index ∙ (λ i. position_or_len (same_procedure (record { name = c.args.clause.now.head; arity = c.len.ensures i })) keys) in
+    let new : c.in-Ok.is_new ≡ not (list_any (same_procedure h) keys) =
+    c.in-Ok.ensures.added ∙ (λ i. not (list_any (same_procedure (record { name = c.args.clause.now.head; arity = c.len.ensures i })) keys)) in
     let grown : map (λ v. v.items) after ≡ with_list keys h (map (λ v. v.items) before) =
     elim c.if-is_new.branch [
       | then-is_new+in-Ok-push w ↦

@@ -1,12 +1,12 @@
 use Rattle.std.proofs.Common.{◌≡◌, ◌≤◌, ◌*◌, List, take}
 use Rattle.std.specs.Prelude.{sum_by}
-use Rattle.fcp_model.specs.declared.loaded.Head.{Head}
+use Rattle.fcp_model.specs.declared.loaded.ProcedureName.{ProcedureName}
 use Rattle.fcp_model.specs.Cells.{goal_cells}
 use Rattle.fcp_model.specs.Translation.{goals_of}
 use Rattle.plain_engine.proofs.costs.body_cells.Given as goal
 
 abbrev pub invariant-loop-item : goal.invariant-loop-item
 invariant-loop-item l = record {
-  cells : (hs : List Head) → sum_by goal_cells (goals_of hs (take l.item-index l.items)) ≡ l.cells;
+  cells : (hs : List ProcedureName) → sum_by goal_cells (goals_of hs (take l.item-index l.items)) ≡ l.cells;
   few : l.cells ≤ 68 * l.item-index;
 }

@@ -1,7 +1,7 @@
 use Rattle.std.proofs.Common.{◌≡◌, ◌+◌, ◌≤◌, Some, length, map, get_or, refl, sym, ap, ◌∙◌, subst, arith, add-one}
 use Rattle.std.specs.Prelude.{slice_get}
 use Rattle.std.proofs.lemmas.Option.{slice_get-get_or}
-use Rattle.fcp_model.specs.Heads.{heads_in}
+use Rattle.fcp_model.specs.ProcedureNames.{procedure_names}
 use Rattle.fcp_model.specs.Places.{places_among}
 use Rattle.fcp_model.specs.Programs.{clauses_of}
 use Rattle.fcp_model.specs.Translation.{clause_of, program_of}
@@ -41,8 +41,8 @@ returns-in-Done-clause-decided c =
     let there : slice_get ps c.loop-at.at ≡ Some (get_or ps c.loop-at.at 0) = slice_get-get_or ps c.loop-at.at 0 c.loop-at-test.true in
     let plain : IsPlainClause c.clause_at.result.now = plain_at m (get_or ps c.loop-at.at 0) c.clause_at.result.now c.requires.plain c.clause_at.ensures in
     let called : IsCalled m c.args.procedure c.loop-at.at c.clause_at.result.now = called_at m c.args.procedure ps c.clauses-position-items.ensures c.loop-at.at (get_or ps c.loop-at.at 0) c.clause_at.result.now there c.clause_at.ensures in
-    let head : HasHead (clause_of (heads_in m.clauses) c.clause_at.result.now) c.clause_at.result.now.args = record { args = refl; guard = no_guard m c.clause_at.result.now plain } in
-    let found = choice_commits s c.args.args.now (clauses_of (program_of m) c.args.procedure) c.loop-at.at c.loop-at.behind c.loop-at.trail c.try_head.new.trail c.try_head.new.trail (clause_of (heads_in m.clauses) c.clause_at.result.now) c.clause_at.result.now.args c.loop-at.invariant.comes called.left head (rw c.in-Done.is at c.in_ok-try_head.ensures.ends) in
+    let head : HasHead (clause_of (procedure_names m.clauses) c.clause_at.result.now) c.clause_at.result.now.args = record { args = refl; guard = no_guard m c.clause_at.result.now plain } in
+    let found = choice_commits s c.args.args.now (clauses_of (program_of m) c.args.procedure) c.loop-at.at c.loop-at.behind c.loop-at.trail c.try_head.new.trail c.try_head.new.trail (clause_of (procedure_names m.clauses) c.clause_at.result.now) c.clause_at.result.now.args c.loop-at.invariant.comes called.left head (rw c.in-Done.is at c.in_ok-try_head.ensures.ends) in
     subst (DecidesAs (program_of m) s (goal_with c.args.procedure c.args.args.now)) (sym c.committed.ensures) (found.0, (found.1, found.2))
 
 pub returns-in-Done-clause-kept : goal.returns-in-Done-clause-kept
@@ -53,10 +53,10 @@ returns-in-Done-clause-kept c = λ n sound old.
     let there : slice_get ps c.loop-at.at ≡ Some (get_or ps c.loop-at.at 0) = slice_get-get_or ps c.loop-at.at 0 c.loop-at-test.true in
     let plain : IsPlainClause c.clause_at.result.now = plain_at m (get_or ps c.loop-at.at 0) c.clause_at.result.now c.requires.plain c.clause_at.ensures in
     let called : IsCalled m c.args.procedure c.loop-at.at c.clause_at.result.now = called_at m c.args.procedure ps c.clauses-position-items.ensures c.loop-at.at (get_or ps c.loop-at.at 0) c.clause_at.result.now there c.clause_at.ensures in
-    let head : HasHead (clause_of (heads_in m.clauses) c.clause_at.result.now) c.clause_at.result.now.args = record { args = refl; guard = no_guard m c.clause_at.result.now plain } in
+    let head : HasHead (clause_of (procedure_names m.clauses) c.clause_at.result.now) c.clause_at.result.now.args = record { args = refl; guard = no_guard m c.clause_at.result.now plain } in
     let trial = c.in_ok-try_head.ensures.kept n sound old in
     subst (KeepsSound n (program_of m) s (goal_with c.args.procedure c.args.args.now)) (sym c.committed.ensures) (record {
-      clause = clause_of (heads_in m.clauses) c.clause_at.result.now;
+      clause = clause_of (procedure_names m.clauses) c.clause_at.result.now;
       used = rw add-one called.there;
       among = trial.among;
       fresh = settled_fresh_in n c.clause_at.result.now.vars s c.try_head.new.trail.bindings.items trial;
@@ -77,12 +77,12 @@ loop-at-preserved c =
     let there : slice_get ps c.loop-at.at ≡ Some (get_or ps c.loop-at.at 0) = slice_get-get_or ps c.loop-at.at 0 c.loop-at-test.true in
     let plain : IsPlainClause c.clause_at.result.now = plain_at m (get_or ps c.loop-at.at 0) c.clause_at.result.now c.requires.plain c.clause_at.ensures in
     let called : IsCalled m c.args.procedure c.loop-at.at c.clause_at.result.now = called_at m c.args.procedure ps c.clauses-position-items.ensures c.loop-at.at (get_or ps c.loop-at.at 0) c.clause_at.result.now there c.clause_at.ensures in
-    let head : HasHead (clause_of (heads_in m.clauses) c.clause_at.result.now) c.clause_at.result.now.args = record { args = refl; guard = no_guard m c.clause_at.result.now plain } in
+    let head : HasHead (clause_of (procedure_names m.clauses) c.clause_at.result.now) c.clause_at.result.now.args = record { args = refl; guard = no_guard m c.clause_at.result.now plain } in
     let cs = clauses_of (program_of m) c.args.procedure in
     record {
       comes = elim c.match-branch-2.branch [
-        | in-Clash w ↦ subst (λ b. ChoiceComes s c.args.args.now cs (c.loop-at.at + 1) b c.undo.new.self) (sym w.behind-is) (choice_on_fail s c.args.args.now (clauses_of (program_of m) c.args.procedure) c.loop-at.at c.loop-at.behind c.loop-at.trail c.try_head.new.trail c.undo.new.self (clause_of (heads_in m.clauses) c.clause_at.result.now) c.clause_at.result.now.args c.loop-at.invariant.comes called.left head (rw w.in-Clash.is at c.in_ok-try_head.ensures.ends) c.undo.ensures.reads)
-        | in-Wait w ↦ subst (λ b. ChoiceComes s c.args.args.now cs (c.loop-at.at + 1) b c.undo.new.self) (sym w.behind-is) (choice_on_wait s c.args.args.now (clauses_of (program_of m) c.args.procedure) c.loop-at.at c.loop-at.behind c.loop-at.trail c.try_head.new.trail c.undo.new.self (clause_of (heads_in m.clauses) c.clause_at.result.now) c.clause_at.result.now.args c.loop-at.invariant.comes called.left head (rw w.in-Wait.is at c.in_ok-try_head.ensures.ends) c.undo.ensures.reads)
+        | in-Clash w ↦ subst (λ b. ChoiceComes s c.args.args.now cs (c.loop-at.at + 1) b c.undo.new.self) (sym w.behind-is) (choice_on_fail s c.args.args.now (clauses_of (program_of m) c.args.procedure) c.loop-at.at c.loop-at.behind c.loop-at.trail c.try_head.new.trail c.undo.new.self (clause_of (procedure_names m.clauses) c.clause_at.result.now) c.clause_at.result.now.args c.loop-at.invariant.comes called.left head (rw w.in-Clash.is at c.in_ok-try_head.ensures.ends) c.undo.ensures.reads)
+        | in-Wait w ↦ subst (λ b. ChoiceComes s c.args.args.now cs (c.loop-at.at + 1) b c.undo.new.self) (sym w.behind-is) (choice_on_wait s c.args.args.now (clauses_of (program_of m) c.args.procedure) c.loop-at.at c.loop-at.behind c.loop-at.trail c.try_head.new.trail c.undo.new.self (clause_of (procedure_names m.clauses) c.clause_at.result.now) c.clause_at.result.now.args c.loop-at.invariant.comes called.left head (rw w.in-Wait.is at c.in_ok-try_head.ensures.ends) c.undo.ensures.reads)
       ];
       empty = c.undo.ensures.bindings;
     }

@@ -1,7 +1,7 @@
 use Rattle.std.proofs.Common.{◌∙◌, ap, sym, arith, length}
 use Rattle.indexmap.specs.IndexSet.{insert_key}
-use Rattle.fcp_model.specs.Heads.{same_head, head_of, with_position}
-use Rattle.fcp_model.proofs.HeadLists.{heads_more, positions_in_more, length-insert_key}
+use Rattle.fcp_model.specs.ProcedureNames.{same_procedure, procedure_name, with_position}
+use Rattle.fcp_model.proofs.ProcedureNameLists.{procedure_names_more, positions_in_more, length-insert_key}
 use Rattle.fcp_model.proofs.loaded.Loaded.index.Goals as goal
 
 pub loop-at-preserved : goal.loop-at-preserved
@@ -11,11 +11,11 @@ loop-at-preserved c =
     record {
       heads =
           kept.heads
-          ∙ ap (λ hs. insert_key same_head hs (head_of c.clause-item.result)) c.loop-at.invariant.heads
-          ∙ sym (heads_more cs c.loop-at.at c.clause-item.result c.loop-at-test.true c.clause-item.is);
-      few = omega (arith, ap length kept.heads, length-insert_key c.loop-at.heads.keys (head_of c.clause-item.result), c.loop-at.invariant.few);
+          ∙ ap (λ hs. insert_key same_procedure hs (procedure_name c.clause-item.result)) c.loop-at.invariant.heads
+          ∙ sym (procedure_names_more cs c.loop-at.at c.clause-item.result c.loop-at-test.true c.clause-item.is);
+      few = omega (arith, ap length kept.heads, length-insert_key c.loop-at.heads.keys (procedure_name c.clause-item.result), c.loop-at.invariant.few);
       places =
           kept.places
-          ∙ (λ i. with_position (c.loop-at.invariant.heads i) (head_of c.clause-item.result) c.loop-at.at (c.loop-at.invariant.places i))
+          ∙ (λ i. with_position (c.loop-at.invariant.heads i) (procedure_name c.clause-item.result) c.loop-at.at (c.loop-at.invariant.places i))
           ∙ sym (positions_in_more cs c.loop-at.at c.clause-item.result c.loop-at-test.true c.clause-item.is);
     }

@@ -1,5 +1,5 @@
 use Rattle.plain_engine.specs.Plain.{ArePlainItems}
-use Rattle.fcp_model.specs.Heads.{heads_in}
+use Rattle.fcp_model.specs.ProcedureNames.{procedure_names}
 use Rattle.fcp_model.specs.FirstForm.{are_called}
 use Rattle.std.proofs.Common.{subst, sym, ◌≡◌, true}
 use Rattle.plain_engine.proofs.Clauses.{plain_at}
@@ -13,5 +13,5 @@ push_children-requires-clause-plain c =
 
 pub push_children-requires-clause-called : goal.push_children-requires-clause-called
 push_children-requires-clause-called c =
-    subst (λ is. are_called (heads_in c.args.task.now.loaded.now.clauses) is ≡ true) (sym c.as_slice.ensures)
+    subst (λ is. are_called (procedure_names c.args.task.now.loaded.now.clauses) is ≡ true) (sym c.as_slice.ensures)
     (body_called c.args.task.now.loaded.now c.clause_numbered-used.ensures.in_text.0 c.clause_numbered-used.result.now c.requires.task.called c.clause_numbered-used.ensures.in_text.1)

@@ -1,5 +1,5 @@
 use Rattle.std.proofs.Common.{arith, map}
-use Rattle.fcp_model.specs.Heads.{heads_in}
+use Rattle.fcp_model.specs.ProcedureNames.{procedure_names}
 use Rattle.fcp_model.specs.Translation.{program_of, clause_of}
 use Rattle.plain_engine.specs.Words.{term_of_word, binds_of}
 use Rattle.plain_engine.proofs.Clauses.{plain_at}
@@ -20,7 +20,7 @@ clause_cells-cells-requires c = plain_at c.args.task.now.loaded.now c.clause_num
 pub returns-then-lacks : goal.returns-then-lacks
 returns-then-lacks c =
     let first = used_first (program_of c.args.task.now.loaded.now) c.args.process.procedure (map term_of_word c.args.process.args.items) c.args.clause c.requires.settles.clause c.requires.settles.used in
-    let price = used_cells (program_of c.args.task.now.loaded.now) c.args.process.procedure (map term_of_word c.args.process.args.items) c.args.clause (clause_of (heads_in c.args.task.now.loaded.now.clauses) c.clause_numbered.result.now) (binds_of c.args.bindings.now) c.requires.decided.0 c.clause_cells-cells.result first c.clause_numbered.ensures.clause (c.clause_cells-cells.ensures (heads_in c.args.task.now.loaded.now.clauses)) in
+    let price = used_cells (program_of c.args.task.now.loaded.now) c.args.process.procedure (map term_of_word c.args.process.args.items) c.args.clause (clause_of (procedure_names c.args.task.now.loaded.now.clauses) c.clause_numbered.result.now) (binds_of c.args.bindings.now) c.requires.decided.0 c.clause_cells-cells.result first c.clause_numbered.ensures.clause (c.clause_cells-cells.ensures (procedure_names c.args.task.now.loaded.now.clauses)) in
     let large = lacking c.args.task.now.limits.cells c.args.self.now.cells c.clause_cells-cells.result _ c.lacks.ensures c.if-lacks.true in
     passed_counts c.args.task.now c.args.self.now c.pass.new.self c.args.process c.requires.room c.in_ok-pass.ensures
     (pass_reached c.args.task.now c.args.process c.args.self.now c.requires.reached c.pass.new.self c.in_ok-pass.ensures c.requires.room _ c.requires.decided.1 (omega (arith, large, price)))
@@ -44,7 +44,7 @@ commit-requires c =
 pub returns : goal.returns
 returns c =
     let first = used_first (program_of c.args.task.now.loaded.now) c.args.process.procedure (map term_of_word c.args.process.args.items) c.args.clause c.requires.settles.clause c.requires.settles.used in
-    let price = used_cells (program_of c.args.task.now.loaded.now) c.args.process.procedure (map term_of_word c.args.process.args.items) c.args.clause (clause_of (heads_in c.args.task.now.loaded.now.clauses) c.clause_numbered.result.now) (binds_of c.args.bindings.now) c.requires.decided.0 c.clause_cells-cells.result first c.clause_numbered.ensures.clause (c.clause_cells-cells.ensures (heads_in c.args.task.now.loaded.now.clauses)) in
+    let price = used_cells (program_of c.args.task.now.loaded.now) c.args.process.procedure (map term_of_word c.args.process.args.items) c.args.clause (clause_of (procedure_names c.args.task.now.loaded.now.clauses) c.clause_numbered.result.now) (binds_of c.args.bindings.now) c.requires.decided.0 c.clause_cells-cells.result first c.clause_numbered.ensures.clause (c.clause_cells-cells.ensures (procedure_names c.args.task.now.loaded.now.clauses)) in
     let enough = not_lacking c.args.task.now.limits.cells c.args.self.now.cells c.clause_cells-cells.result _ c.lacks.ensures c.if-lacks.false in (
       commit_reached c.args.task.now c.args.process c.args.self.now c.requires.reached c.commit.new.self c.args.clause c.args.bindings.now c.clause_cells-cells.result c.in_ok-commit.ensures c.requires.room c.requires.task first c.requires.decided.0 c.requires.decided.1 c.requires.settles.sound price enough,
       c.in_ok-commit.ensures.moves,

@@ -1,7 +1,7 @@
 -- The laws, proved beside the definitions.
 use Rattle.fcp_model.specs.OneWorker.{begin}
-use Rattle.fcp_model.proofs.SoundStands.{start_ordered, begin_sound, leads_sound, none_ready}
-use Rattle.fcp_laws.proofs.sound_stands.Goals as goal
+use Rattle.fcp_laws.proofs.SoundSchedules.{start_ordered, begin_sound, leads_sound, none_ready}
+use Rattle.fcp_laws.proofs.sound_schedules.Goals as goal
 
 pub returns-clause-start : goal.returns-clause-start
 returns-clause-start c = start_ordered

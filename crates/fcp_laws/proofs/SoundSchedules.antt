@@ -1,4 +1,4 @@
--- Every stand that a run comes to is sound.
+-- Every schedule that a run comes to is sound.
 use Rattle.std.proofs.Common.{◌≡◌, ℕ, zero, suc, ◌<◌, ◌≤◌, Bool, true, false, cond, List, [], ◌∷◌, ◌++◌, map, Option, Some, None, refl, sym, ap, ◌∙◌, subst, arith, append-nil}
 use Rattle.std.specs.Prelude.{filter, option_map, ◌||◌}
 use Rattle.std.specs.List.{list_any}
@@ -14,13 +14,14 @@ use Rattle.fcp_model.specs.Programs.{Goal, Program}
 use Rattle.fcp_model.specs.Decisions.{Decision, commits, decides_fail, waits_on}
 use Rattle.fcp_model.specs.States.{Status, ready, waiting, finished, Process, State, is_open, is_ready, process_named, start}
 use Rattle.fcp_model.specs.Events.{Event, is_woken, made_ready, wake, with_status, children_of, event_of}
-use Rattle.fcp_model.specs.OneWorker.{Stand, Ruling, ends, passes, makes, is_over, after_event, ruling, followed, rulings, begin, Leads}
-use Rattle.fcp_model.specs.WaitingProcesses.{is_waiting}
-use Rattle.fcp_model.specs.Stands.{Each, NamesRise, AreApart, IsOrdered, IsSoundStand}
-use Rattle.fcp_model.proofs.ProcessNames.{same_process, head_found, head_passed, each_map, rise_map, each_so, each_append, kept_if, named_filter, apart_of_rise}
-use Rattle.fcp_model.proofs.WaitingProcesses.{with_status-name, wake-name}
-use Rattle.fcp_model.proofs.Rulings.{after_control, by_rule}
-use Rattle.fcp_model.proofs.QueueMoves.{apart_filter, each_itself, turned, apart_turned, children_entry, children_ready, children_rise, moved_ready, moved_queued, moved_apart, moved_rise}
+use Rattle.fcp_model.specs.OneWorker.{Schedule, Ruling, ends, passes, makes, is_over, after_event, ruling, followed, rulings, begin, Leads}
+use Rattle.fcp_laws.specs.WaitingProcesses.{is_waiting}
+use Rattle.fcp_model.specs.LawfulStates.{Each, NamesRise, IsOrdered}
+use Rattle.fcp_laws.specs.Schedules.{AreApart, IsSoundSchedule}
+use Rattle.fcp_laws.proofs.ProcessNames.{same_process, head_found, head_passed, each_map, rise_map, each_so, each_append, kept_if, named_filter, apart_of_rise}
+use Rattle.fcp_laws.proofs.WaitingProcesses.{with_status-name, wake-name}
+use Rattle.fcp_laws.proofs.Rulings.{after_control, by_rule}
+use Rattle.fcp_laws.proofs.QueueMoves.{apart_filter, each_itself, turned, apart_turned, children_entry, children_ready, children_rise, moved_ready, moved_queued, moved_apart, moved_rise}
 
 pub is_ready-true : (st : Status) → is_ready st ≡ true → st ≡ ready
 is_ready-true ready e = refl
@@ -31,7 +32,7 @@ is_ready-true finished e = absurd (true≢false (sym e))
 pub start_ordered : (vars : ℕ) (gs : List (Goal ℕ)) → IsOrdered (start vars gs)
 start_ordered vars gs = record { rise = children_rise 0 1 _; within = children_entry (λ n. n ≤ 0) 0 1 _ (omega arith) }
 
-pub begin_sound : (s : State) (cs : List Control) → IsOrdered s → IsSoundStand (begin s cs)
+pub begin_sound : (s : State) (cs : List Control) → IsOrdered s → IsSoundSchedule (begin s cs)
 begin_sound s cs o = record {
   ordered = o;
   apart = apart_filter (λ p. is_ready p.status) s.processes (apart_of_rise s.processes o.rise);
@@ -51,7 +52,7 @@ begin_sound s cs o = record {
         go false f j = absurd cc
 
 -- an entry more, the same processes and queue
-pub control_sound : (at : Stand) (c : Control) (cs : List Control) → IsSoundStand at → is_over at.state.mode ≡ false → IsSoundStand (after_control at c cs)
+pub control_sound : (at : Schedule) (c : Control) (cs : List Control) → IsSoundSchedule at → is_over at.state.mode ≡ false → IsSoundSchedule (after_control at c cs)
 control_sound at c cs h o = record {
   ordered = record { rise = h.ordered.rise; within = each_so (λ p. p.name.entry ≤ at.state.entries) (λ p. p.name.entry ≤ suc at.state.entries) (λ p i. omega arith) at.state.processes h.ordered.within };
   apart = h.apart;
@@ -59,8 +60,8 @@ control_sound at c cs h o = record {
   are_queued = λ i. h.are_queued o;
 }
 
--- what a sound stand says of its front
-module _ (at : Stand) (h : IsSoundStand at) (p : Process) (rest : List Process) (queued : at.queue ≡ p ∷ rest) where
+-- what a sound schedule says of its front
+module _ (at : Schedule) (h : IsSoundSchedule at) (p : Process) (rest : List Process) (queued : at.queue ≡ p ∷ rest) where
   front_apart : AreApart (p ∷ rest)
   front_apart = subst AreApart queued h.apart
 
@@ -74,7 +75,7 @@ module _ (at : Stand) (h : IsSoundStand at) (p : Process) (rest : List Process) 
   pub front_is_ready : (process_named at.state.processes p.name ≡ Some p) × (p.status ≡ ready)
   front_is_ready = front_named p.name p (head_found p rest)
 
-  pub pass_sound : is_over at.state.mode ≡ false → (passed : ℕ) → IsSoundStand (record at { queue = rest ++ p ∷ []; passed = passed })
+  pub pass_sound : is_over at.state.mode ≡ false → (passed : ℕ) → IsSoundSchedule (record at { queue = rest ++ p ∷ []; passed = passed })
   pass_sound o passed = record {
     ordered = h.ordered;
     apart = apart_turned p rest front_apart;
@@ -83,7 +84,7 @@ module _ (at : Stand) (h : IsSoundStand at) (p : Process) (rest : List Process) 
   }
 
 -- a fail
-fail_sound : (m : Program) (at : Stand) (p : Process) (rest : List Process) (rs : List Variable) → IsSoundStand at → at.queue ≡ p ∷ rest → IsSoundStand (after_event at rest (event_of m at.state p (decides_fail rs)))
+fail_sound : (m : Program) (at : Schedule) (p : Process) (rest : List Process) (rs : List Variable) → IsSoundSchedule at → at.queue ≡ p ∷ rest → IsSoundSchedule (after_event at rest (event_of m at.state p (decides_fail rs)))
 fail_sound m at p rest rs h queued = record {
   ordered = record { rise = h.ordered.rise; within = each_so (λ q. q.name.entry ≤ at.state.entries) (λ q. q.name.entry ≤ suc at.state.entries) (λ q i. omega arith) at.state.processes h.ordered.within };
   apart = subst AreApart (sym same) (front_apart at h p rest queued).1;
@@ -106,7 +107,7 @@ none_kept [] = refl
 none_kept (p ∷ ps) = none_kept ps
 
 -- a hang
-hang_sound : (m : Program) (at : Stand) (p : Process) (rest : List Process) (rs : List Variable) → IsSoundStand at → at.queue ≡ p ∷ rest → at.state.mode ≡ is_open → IsSoundStand (after_event at rest (event_of m at.state p (waits_on rs)))
+hang_sound : (m : Program) (at : Schedule) (p : Process) (rest : List Process) (rs : List Variable) → IsSoundSchedule at → at.queue ≡ p ∷ rest → at.state.mode ≡ is_open → IsSoundSchedule (after_event at rest (event_of m at.state p (waits_on rs)))
 hang_sound m at p rest rs h queued opened = record {
   ordered = record {
     rise = rise_map f keeps at.state.processes h.ordered.rise;
@@ -152,7 +153,7 @@ hang_sound m at p rest rs h queued opened = record {
     same_processes = append-nil (map f at.state.processes)
 
 -- a commit
-commit_sound : (m : Program) (at : Stand) (p : Process) (rest : List Process) (k : ℕ) (bs : Bindings) (rs : List Variable) → IsSoundStand at → at.queue ≡ p ∷ rest → at.state.mode ≡ is_open → IsSoundStand (after_event at rest (event_of m at.state p (commits k bs rs)))
+commit_sound : (m : Program) (at : Schedule) (p : Process) (rest : List Process) (k : ℕ) (bs : Bindings) (rs : List Variable) → IsSoundSchedule at → at.queue ≡ p ∷ rest → at.state.mode ≡ is_open → IsSoundSchedule (after_event at rest (event_of m at.state p (commits k bs rs)))
 commit_sound m at p rest k bs rs h queued opened = record {
   ordered = record {
     rise = moved_rise e p rest at.state.processes f t new keeps at_front elsewhere asleep h.ordered.rise h.ordered.within later is_new rising (front_apart at h p rest queued) (front_named at h p rest queued) (front_all at h p rest queued not_over);
@@ -202,18 +203,18 @@ commit_sound m at p rest k bs rs h queued opened = record {
     rising : NamesRise new
     rising = children_rise (suc e) 1 _
 
-pub move_sound : (m : Program) (at : Stand) (p : Process) (rest : List Process) (d : Decision) → IsSoundStand at → at.queue ≡ p ∷ rest → at.state.mode ≡ is_open → IsSoundStand (after_event at rest (event_of m at.state p d))
+pub move_sound : (m : Program) (at : Schedule) (p : Process) (rest : List Process) (d : Decision) → IsSoundSchedule at → at.queue ≡ p ∷ rest → at.state.mode ≡ is_open → IsSoundSchedule (after_event at rest (event_of m at.state p d))
 move_sound m at p rest (commits k bs rs) h q o = commit_sound m at p rest k bs rs h q o
 move_sound m at p rest (decides_fail rs) h q o = fail_sound m at p rest rs h q
 move_sound m at p rest (waits_on rs) h q o = hang_sound m at p rest rs h q o
 
--- each ruling leads from a sound stand to one
+-- each ruling leads from a sound schedule to one
 abbrev pub SoundAfter : Ruling → Type 0
 SoundAfter ends = Unit {0}
-SoundAfter (passes to) = IsSoundStand to
-SoundAfter (makes ev to) = IsSoundStand to
+SoundAfter (passes to) = IsSoundSchedule to
+SoundAfter (makes ev to) = IsSoundSchedule to
 
-pub ruling_sound : (n : ℕ) (m : Program) (limits : Limits) (at : Stand) (r : Ruling) → IsSoundStand at → ruling n m limits at ≡ Some r → SoundAfter r
+pub ruling_sound : (n : ℕ) (m : Program) (limits : Limits) (at : Schedule) (r : Ruling) → IsSoundSchedule at → ruling n m limits at ≡ Some r → SoundAfter r
 ruling_sound n m limits at r h e =
     by_rule n m limits at SoundAfter
     (record {
@@ -223,32 +224,32 @@ ruling_sound n m limits at r h e =
       at_move = λ p rest d f i. move_sound m at p rest d h f.queued f.is_running;
     }) r e
 
-abbrev stand_of : Stand → Option (List Event × Stand) → Stand
+abbrev stand_of : Schedule → Option (List Event × Schedule) → Schedule
 stand_of at None = at
 stand_of at (Some r) = r.1
 
-pub rulings_sound : (i n : ℕ) (m : Program) (limits : Limits) (at : Stand) (evs : List Event) (to : Stand) → IsSoundStand at → rulings i n m limits at ≡ Some (evs, to) → IsSoundStand to
-rulings_sound zero n m limits at evs to h e = subst IsSoundStand (ap (stand_of at) e) h
+pub rulings_sound : (i n : ℕ) (m : Program) (limits : Limits) (at : Schedule) (evs : List Event) (to : Schedule) → IsSoundSchedule at → rulings i n m limits at ≡ Some (evs, to) → IsSoundSchedule to
+rulings_sound zero n m limits at evs to h e = subst IsSoundSchedule (ap (stand_of at) e) h
 rulings_sound (suc i) n m limits at evs to h e = go (ruling n m limits at) refl (λ x evs'. rulings_sound i n m limits x evs' to) e
   where
-    go : (o : Option Ruling) → ruling n m limits at ≡ o → ((x : Stand) (evs' : List Event) → IsSoundStand x → rulings i n m limits x ≡ Some (evs', to) → IsSoundStand to) → followed (rulings i n m limits) at o ≡ Some (evs, to) → IsSoundStand to
+    go : (o : Option Ruling) → ruling n m limits at ≡ o → ((x : Schedule) (evs' : List Event) → IsSoundSchedule x → rulings i n m limits x ≡ Some (evs', to) → IsSoundSchedule to) → followed (rulings i n m limits) at o ≡ Some (evs, to) → IsSoundSchedule to
     go None f rec j = absurd cc
-    go (Some ends) f rec j = subst IsSoundStand (ap (stand_of at) j) h
+    go (Some ends) f rec j = subst IsSoundSchedule (ap (stand_of at) j) h
     go (Some (passes x)) f rec j = rec x evs (ruling_sound n m limits at (passes x) h f) j
     go (Some (makes ev x)) f rec j = made (rulings i n m limits x) refl j
       where
-        made : (o : Option (List Event × Stand)) → rulings i n m limits x ≡ o → option_map {U = List Event × Stand} (λ (r : List Event × Stand). (ev ∷ r.0, r.1)) o ≡ Some (evs, to) → IsSoundStand to
+        made : (o : Option (List Event × Schedule)) → rulings i n m limits x ≡ o → option_map {U = List Event × Schedule} (λ (r : List Event × Schedule). (ev ∷ r.0, r.1)) o ≡ Some (evs, to) → IsSoundSchedule to
         made None u k = absurd cc
         made (Some r) u k =
             let there : r.1 ≡ to = ap (stand_of at) k in
             rec x r.0 (ruling_sound n m limits at (makes ev x) h f) (u ∙ ap (λ y. Some (r.0, y)) there)
 
--- every stand that a run comes to is sound
-pub leads_sound : (m : Program) (limits : Limits) (from : Stand) (evs : List Event) (to : Stand) → IsSoundStand from → Leads m limits from evs to → IsSoundStand to
+-- every schedule that a run comes to is sound
+pub leads_sound : (m : Program) (limits : Limits) (from : Schedule) (evs : List Event) (to : Schedule) → IsSoundSchedule from → Leads m limits from evs to → IsSoundSchedule to
 leads_sound m limits from evs to h l = rulings_sound l.count l.steps m limits from evs to h l.followed
 
 -- with no process left in the queue no process of the state is Ready
-pub none_ready : (at : Stand) → IsSoundStand at → is_over at.state.mode ≡ false → at.queue ≡ [] → list_any (λ p. is_ready p.status) at.state.processes ≡ false
+pub none_ready : (at : Schedule) → IsSoundSchedule at → is_over at.state.mode ≡ false → at.queue ≡ [] → list_any (λ p. is_ready p.status) at.state.processes ≡ false
 none_ready at h o q = none at.state.processes (each_itself at.state.processes (apart_of_rise at.state.processes h.ordered.rise))
   where
     status_not : (p : Process) → process_named at.state.processes p.name ≡ Some p → (b : Bool) → is_ready p.status ≡ b → b ≡ false
@@ -260,7 +261,7 @@ none_ready at h o q = none at.state.processes (each_itself at.state.processes (a
     none (p ∷ ps) e = ap (λ b. b || list_any (λ x. is_ready x.status) ps) (status_not p e.0 (is_ready p.status) refl) ∙ none ps e.1
 
 -- a waiting process is not in the queue
-pub waiting_not_queued : (at : Stand) → IsSoundStand at → (n : Proc) (p : Process) → process_named at.state.processes n ≡ Some p → is_waiting p.status ≡ true → process_named at.queue n ≡ None
+pub waiting_not_queued : (at : Schedule) → IsSoundSchedule at → (n : Proc) (p : Process) → process_named at.state.processes n ≡ Some p → is_waiting p.status ≡ true → process_named at.queue n ≡ None
 waiting_not_queued at h n p e w = go (process_named at.queue n) refl
   where
     go : (o : Option Process) → process_named at.queue n ≡ o → o ≡ None

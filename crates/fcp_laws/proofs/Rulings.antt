@@ -9,10 +9,10 @@ use Rattle.fcp_model.specs.Decisions.{Decision, decide}
 use Rattle.fcp_model.specs.States.{Process, Mode, is_open, is_held, is_failed, is_aborted, is_suspended}
 use Rattle.fcp_model.specs.Events.{Event, event_of, control_event}
 use Rattle.fcp_model.specs.Bounds.{act_entry}
-use Rattle.fcp_model.specs.OneWorker.{Stand, Ruling, ends, passes, makes, is_over, is_due, mode_after, control_ruling, after_event, front_ruling, queue_ruling, ruling}
+use Rattle.fcp_model.specs.OneWorker.{Schedule, Ruling, ends, passes, makes, is_over, is_due, mode_after, control_ruling, after_event, front_ruling, queue_ruling, ruling}
 
 -- the front of the queue, for which a decision is made
-pub record IsFront (n : ℕ) (m : Program) (limits : Limits) (at : Stand) (p : Process) (rest : List Process) (d : Decision) : Type 0 where
+pub record IsFront (n : ℕ) (m : Program) (limits : Limits) (at : Schedule) (p : Process) (rest : List Process) (d : Decision) : Type 0 where
   pub is_running : at.state.mode ≡ is_open
   pub not_due : is_due at.controls at.moves ≡ false
   pub queued : at.queue ≡ p ∷ rest
@@ -22,14 +22,14 @@ pub record IsFront (n : ℕ) (m : Program) (limits : Limits) (at : Stand) (p : P
   pub decided : decide n m at.state.bound p.goal ≡ Some d
 
 -- the event of a control, and where the run stands after it
-abbrev pub event_of_control : Stand → Control → Event
+abbrev pub event_of_control : Schedule → Control → Event
 event_of_control at c = control_event at.state (act_entry c.act) (mode_after c.act at.state.mode)
 
-abbrev pub after_control : Stand → Control → List Control → Stand
+abbrev pub after_control : Schedule → Control → List Control → Schedule
 after_control at c cs = record at { state = (event_of_control at c).after; controls = cs }
 
 -- a fact of rulings, by the rule
-pub record Holds (n : ℕ) (m : Program) (limits : Limits) (at : Stand) (P : Ruling → Type 0) : Type 0 where
+pub record Holds (n : ℕ) (m : Program) (limits : Limits) (at : Schedule) (P : Ruling → Type 0) : Type 0 where
   pub at_end : P ends
   pub at_control : is_over at.state.mode ≡ false → (c : Control) (cs : List Control) → at.controls ≡ c ∷ cs → c.after ≡ at.moves → P (makes (event_of_control at c) (after_control at c cs))
   pub at_pass : (p : Process) (rest : List Process) (d : Decision) → IsFront n m limits at p rest d →
@@ -47,7 +47,7 @@ neither : (x y : Bool) → (x || y) ≡ false → (x ≡ false) × (y ≡ false)
 neither true y e = absurd (true≢false e)
 neither false y e = (refl, e)
 
-module _ (n : ℕ) (m : Program) (limits : Limits) (at : Stand) (P : Ruling → Type 0) (h : Holds n m limits at P) (r : Ruling) where
+module _ (n : ℕ) (m : Program) (limits : Limits) (at : Schedule) (P : Ruling → Type 0) (h : Holds n m limits at P) (r : Ruling) where
   it_is : (q : Ruling) → P q → Some q ≡ Some r → P r
   it_is q i e = let same : q ≡ r = cc in subst P same i
 

@@ -3,10 +3,10 @@ use Rattle.std.proofs.Common.{◌≡◌, ℕ, ◌<◌, Bool, true, false, cond, 
 use Rattle.std.specs.Prelude.{filter, option_map, ◌&&◌}
 use Rattle.std.proofs.lemmas.Bool.{eqb-true, eq-eqb, and_parts, and_from, ltb-true, or_cases, and_left, and_right, ne_eqb}
 use Rattle.fcp_model.specs.declared.run.Proc.{Proc}
-use Rattle.fcp_model.specs.Places.{is_same_process}
+use Rattle.fcp_model.specs.Places.{is_same_process, is_older_process}
 use Rattle.fcp_model.specs.States.{Process, process_named}
-use Rattle.fcp_model.specs.WaitingProcesses.{is_older_process}
-use Rattle.fcp_model.specs.Stands.{Each, NamesRise, AreApart, NamesWithin}
+use Rattle.fcp_model.specs.LawfulStates.{Each, NamesRise, NamesWithin}
+use Rattle.fcp_laws.specs.Schedules.{AreApart}
 
 pub same_process : (p q : Proc) → is_same_process p q ≡ true → p ≡ q
 same_process p q e =

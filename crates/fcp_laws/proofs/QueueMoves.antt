@@ -3,13 +3,13 @@ use Rattle.std.proofs.Common.{◌≡◌, ℕ, suc, ◌<◌, ◌≤◌, Bool, tru
 use Rattle.std.specs.Prelude.{filter, option_map, ◌||◌, ◌&&◌}
 use Rattle.std.proofs.lemmas.Bool.{true≢false, lt-ltb, eq-eqb, and_from}
 use Rattle.fcp_model.specs.declared.run.Proc.{Proc}
-use Rattle.fcp_model.specs.Places.{proc, is_same_process, Variable}
+use Rattle.fcp_model.specs.Places.{proc, is_same_process, Variable, is_older_process}
 use Rattle.fcp_model.specs.Programs.{Goal}
 use Rattle.fcp_model.specs.States.{ready, Process, process_named, processes_of}
 use Rattle.fcp_model.specs.Events.{made_ready}
-use Rattle.fcp_model.specs.WaitingProcesses.{is_older_process}
-use Rattle.fcp_model.specs.Stands.{Each, NamesRise, AreApart, NamesWithin}
-use Rattle.fcp_model.proofs.ProcessNames.{same_process, same_itself, picked, name_found, head_found, head_passed, first_of_two, named_append, named_map, each_map, rise_map, each_so, each_append, each_found, kept_if, named_filter, apart_of_rise, none_above}
+use Rattle.fcp_model.specs.LawfulStates.{Each, NamesRise, NamesWithin}
+use Rattle.fcp_laws.specs.Schedules.{AreApart}
+use Rattle.fcp_laws.proofs.ProcessNames.{same_process, same_itself, picked, name_found, head_found, head_passed, first_of_two, named_append, named_map, each_map, rise_map, each_so, each_append, each_found, kept_if, named_filter, apart_of_rise, none_above}
 
 pub same_both_ways : (p q : Proc) → is_same_process p q ≡ false → is_same_process q p ≡ false
 same_both_ways p q h = go (is_same_process q p) refl

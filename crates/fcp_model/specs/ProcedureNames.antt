@@ -5,19 +5,19 @@ use Rattle.indexmap.specs.IndexSet.{insert_key}
 use Rattle.fcp_model.specs.declared.source.Clause.{Clause}
 use Rattle.fcp_model.specs.declared.source.Export.{Export}
 use Rattle.fcp_model.specs.declared.source.Module.{Module}
-use Rattle.fcp_model.specs.declared.loaded.Head.{Head}
+use Rattle.fcp_model.specs.declared.loaded.ProcedureName.{ProcedureName}
 
 -- the same procedure: the same name with as many arguments
-abbrev pub same_head : Head → Head → Bool
-same_head g h = nat_eq g.name.0 h.name.0 && nat_eq g.arity h.arity
+abbrev pub same_procedure : ProcedureName → ProcedureName → Bool
+same_procedure g h = nat_eq g.name.0 h.name.0 && nat_eq g.arity h.arity
 
 -- the procedure to which a clause belongs
-abbrev pub head_of : Clause → Head
-head_of c = record { name = c.head; arity = length c.args }
+abbrev pub procedure_name : Clause → ProcedureName
+procedure_name c = record { name = c.head; arity = length c.args }
 
 -- the procedures of some clauses
-abbrev pub heads_in : List Clause → List Head
-heads_in cs = fold (λ hs c. insert_key same_head hs (head_of c)) [] cs
+abbrev pub procedure_names : List Clause → List ProcedureName
+procedure_names cs = fold (λ hs c. insert_key same_procedure hs (procedure_name c)) [] cs
 
 -- a list with a number put first, where a test says so
 abbrev pub put_if : Bool → ℕ → List ℕ → List ℕ
@@ -25,32 +25,32 @@ put_if true n ns = n ∷ ns
 put_if false n ns = ns
 
 -- the positions, from `from` on, of a procedure's clauses among some clauses
-abbrev pub positions_from : ℕ → Head → List Clause → List ℕ
+abbrev pub positions_from : ℕ → ProcedureName → List Clause → List ℕ
 positions_from from h [] = []
-positions_from from h (c ∷ cs) = put_if (same_head h (head_of c)) from (positions_from (from + 1) h cs)
+positions_from from h (c ∷ cs) = put_if (same_procedure h (procedure_name c)) from (positions_from (from + 1) h cs)
 
 -- for each procedure the positions of its clauses, in the order of the text
 abbrev pub positions_in : List Clause → List (List ℕ)
-positions_in cs = map (λ h. positions_from 0 h cs) (heads_in cs)
+positions_in cs = map (λ h. positions_from 0 h cs) (procedure_names cs)
 
 -- the lists with a position put last in the list of its procedure, which is a new one where the procedure is new
-abbrev pub with_position : List Head → Head → ℕ → List (List ℕ) → List (List ℕ)
+abbrev pub with_position : List ProcedureName → ProcedureName → ℕ → List (List ℕ) → List (List ℕ)
 with_position [] h at [] = (at ∷ []) ∷ []
 with_position [] h at (ps ∷ pss) = ps ∷ pss
 with_position (g ∷ gs) h at [] = []
-with_position (g ∷ gs) h at (ps ∷ pss) = if same_head h g then (ps ++ at ∷ []) ∷ pss else ps ∷ with_position gs h at pss
+with_position (g ∷ gs) h at (ps ∷ pss) = if same_procedure h g then (ps ++ at ∷ []) ∷ pss else ps ∷ with_position gs h at pss
 
 -- what the index of a module holds: its procedures, of which there are few enough to number, and the positions of their clauses
-pub record IsIndex (m : Module) (heads : List Head) (places : List (List ℕ)) : Type 0 where
-  pub all_heads : heads ≡ heads_in m.clauses
+pub record IsIndex (m : Module) (heads : List ProcedureName) (places : List (List ℕ)) : Type 0 where
+  pub all_names : heads ≡ procedure_names m.clauses
   pub few : length heads < 2 ^ 32
   pub all_places : places ≡ positions_in m.clauses
   pub short : All (λ c. length c.args < 2 ^ 32) m.clauses
 
 -- an element of an `-export` names the procedure
-abbrev pub same_export : Head → Export → Bool
+abbrev pub same_export : ProcedureName → Export → Bool
 same_export h e = nat_eq e.name.0 h.name.0 && nat_eq e.arity h.arity
 
 -- whether a procedure is exported: all are where the text has no `-export`
-abbrev pub is_exported : Module → Head → Bool
+abbrev pub is_exported : Module → ProcedureName → Bool
 is_exported m h = elim m.exports [ None ↦ true | Some es ↦ list_any (same_export h) es ]

@@ -17,14 +17,15 @@ use Rattle.fcp_model.specs.Events.{Event, event_of}
 use Rattle.fcp_model.specs.Runs.{entries_of, cells_of}
 use Rattle.fcp_model.specs.Bounds.{commits_in, moves_in}
 use Rattle.fcp_model.specs.Outcomes.{IsTooLarge, AllTooLarge, EndsOpen, EndsAt, Ends}
-use Rattle.fcp_model.specs.WaitingProcesses.{is_waiting}
-use Rattle.fcp_model.specs.OneWorker.{Stand, ends, passes, makes, is_over, is_due, control_ruling, after_event, front_ruling, queue_ruling, ruling, begin, IsOneWorkerRun}
-use Rattle.fcp_model.specs.Endings.{open_outcome, outcome_at}
-use Rattle.fcp_model.specs.Stands.{Each, IsOrdered, IsSoundStand}
-use Rattle.fcp_model.proofs.ProcessNames.{picked, each_found, apart_of_rise}
-use Rattle.fcp_model.proofs.QueueMoves.{each_itself}
-use Rattle.fcp_model.proofs.SoundStands.{begin_sound, leads_sound, none_ready, front_is_ready}
-use Rattle.fcp_model.proofs.StandCounts.{IsLarge, PassedAreLarge, leads_counts, begin_large, leads_large}
+use Rattle.fcp_laws.specs.WaitingProcesses.{is_waiting}
+use Rattle.fcp_model.specs.OneWorker.{Schedule, ends, passes, makes, is_over, is_due, control_ruling, after_event, front_ruling, queue_ruling, ruling, begin, IsOneWorkerRun}
+use Rattle.fcp_laws.specs.Endings.{open_outcome, outcome_at}
+use Rattle.fcp_model.specs.LawfulStates.{Each, IsOrdered}
+use Rattle.fcp_laws.specs.Schedules.{IsSoundSchedule}
+use Rattle.fcp_laws.proofs.ProcessNames.{picked, each_found, apart_of_rise}
+use Rattle.fcp_laws.proofs.QueueMoves.{each_itself}
+use Rattle.fcp_laws.proofs.SoundSchedules.{begin_sound, leads_sound, none_ready, front_is_ready}
+use Rattle.fcp_laws.proofs.ScheduleCounts.{IsLarge, PassedAreLarge, leads_counts, begin_large, leads_large}
 
 -- all processes are finished just where none is Ready and none waits
 finished_if_neither : (ps : List Process) → list_all (λ p. is_finished p.status) ps ≡ not (list_any (λ p. is_ready p.status) ps || list_any (λ p. is_waiting p.status) ps)
@@ -47,7 +48,7 @@ ready_found (q ∷ ps) n p e s = go (is_same_process q.name n) (ready_found ps n
     go false rec i = rw (rec i s) (or-true (is_ready q.status))
 
 -- where it was said of an open run that it ends
-module _ (n : ℕ) (m : Program) (limits : Limits) (at : Stand) where
+module _ (n : ℕ) (m : Program) (limits : Limits) (at : Schedule) where
   control_goes_on : (cs : List Control) → is_due cs at.moves ≡ true → Some (control_ruling at cs) ≡ Some ends → ⊥
   control_goes_on [] d e = true≢false (sym d)
   control_goes_on (c ∷ cs) d e = cc
@@ -92,7 +93,7 @@ all_passed : (front back queue : List Process) (passed : ℕ) → queue ≡ fron
 all_passed [] back queue passed e f l = e
 all_passed (p ∷ front) back queue passed e f l = absurd (omega (arith, ap length e, length-append front back))
 
-module _ (m : Program) (limits : Limits) (at : Stand) (sound : IsSoundStand at) (large : PassedAreLarge m limits at) where
+module _ (m : Program) (limits : Limits) (at : Schedule) (sound : IsSoundSchedule at) (large : PassedAreLarge m limits at) where
   abbrev left : ℕ
   left = limits.cells - at.cells
 
@@ -148,7 +149,7 @@ module _ (m : Program) (limits : Limits) (at : Stand) (sound : IsSoundStand at) 
       go is_open o = rw o (fits_queue n o at.queue refl (by_queue n m limits at o e))
 
 -- the outcome of a run of one worker is that of its last state, its commits, its moves and its cells
-pub ends_so : (m : Program) (limits : Limits) (s : State) (cs : List Control) (evs : List Event) (at : Stand) → IsOrdered s → s.mode ≡ is_open → IsOneWorkerRun m limits s cs evs at → Ends m limits s evs (outcome_at limits at)
+pub ends_so : (m : Program) (limits : Limits) (s : State) (cs : List Control) (evs : List Event) (at : Schedule) → IsOrdered s → s.mode ≡ is_open → IsOneWorkerRun m limits s cs evs at → Ends m limits s evs (outcome_at limits at)
 ends_so m limits s cs evs at ordered opened run =
     let h = leads_counts m limits s cs evs at run.leads in
     let fits = fits_where_ended m limits at (leads_sound m limits (begin s cs) evs at (begin_sound s cs ordered) run.leads) (leads_large m limits (begin s cs) evs at (begin_large m limits s cs) run.leads) run.steps run.ended in

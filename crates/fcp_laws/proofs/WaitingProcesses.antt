@@ -5,14 +5,14 @@ use Rattle.std.proofs.lemmas.Bool.{ltb-true, eqb-true, and_parts, or_cases, and_
 use Rattle.std.proofs.lemmas.List.Elements.{filter-append}
 use Rattle.fcp_model.specs.declared.run.Place.{Place}
 use Rattle.fcp_model.specs.declared.run.Proc.{Proc}
-use Rattle.fcp_model.specs.Places.{placed, is_same_process, Variable}
+use Rattle.fcp_model.specs.Places.{placed, is_same_process, Variable, is_older_process}
 use Rattle.fcp_model.specs.Terms.{Bindings}
 use Rattle.fcp_model.specs.Programs.{Goal, Clause, rename_goal}
 use Rattle.fcp_model.specs.States.{Status, ready, waiting, finished, Process, process_named, processes_of}
 use Rattle.fcp_model.specs.Events.{binds_one, is_woken, made_ready, wake, woken_by, with_status, children_of, body_of}
-use Rattle.fcp_model.specs.WaitingProcesses.{is_waiting, waiting_of, is_older_process, with_process}
-use Rattle.fcp_model.specs.Stands.{Each, NamesRise}
-use Rattle.fcp_model.proofs.ProcessNames.{picked, each_found, older_apart}
+use Rattle.fcp_laws.specs.WaitingProcesses.{is_waiting, waiting_of, with_process}
+use Rattle.fcp_model.specs.LawfulStates.{Each, NamesRise}
+use Rattle.fcp_laws.proofs.ProcessNames.{picked, each_found, older_apart}
 
 pub with_status-name : (n : Proc) (st : Status) (p : Process) → (with_status n st p).name ≡ p.name
 with_status-name n st p = go (is_same_process p.name n)
@@ -96,8 +96,8 @@ woken_wait : (bs : Bindings) (ps : List Process) → filter (λ q. is_woken bs q
 woken_wait bs [] = refl
 woken_wait bs (p ∷ ps) = woken_head bs p.name p.goal p.status _ _ (woken_wait bs ps)
 
-pub woken_among_waiting : (bs : Bindings) (ps : List Process) → woken_by bs ps ≡ map made_ready (filter (λ q. is_woken bs q.status) (waiting_of ps))
-woken_among_waiting bs ps = ap (map made_ready) (woken_wait bs ps)
+pub woken_among_waiting : (bs : Bindings) (ps : List Process) → woken_by bs ps ≡ filter (λ q. is_woken bs q.status) (waiting_of ps)
+woken_among_waiting bs ps = woken_wait bs ps
 
 -- a hang: the process comes to its place among the waiting ones
 both_false : (x y : Bool) → x ≡ false → y ≡ false → (x || y) ≡ false
