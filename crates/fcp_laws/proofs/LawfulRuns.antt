@@ -71,7 +71,7 @@ legal_on n m limits at = record {
       (rec (move_sound m at p rest d h f.queued f.is_running) (move_lawful m at p rest d f.not_due l));
 }
 
--- each move stands below the limits
+-- each move is made below the limits
 counts_for : (limits : Limits) (c c' k k' : ℕ) (es : List Entry) → c ≡ c' → k ≡ k' → KeepsCounts limits c k es → KeepsCounts limits c' k' es
 counts_for limits c c' k k' es e f h = subst (λ x. KeepsCounts limits x k' es) e (subst (λ x. KeepsCounts limits c x es) f h)
 

@@ -1,4 +1,4 @@
--- The controls that are left are lawful wherever a run of one worker stands.
+-- The controls that are left are lawful in each schedule to which a run of one worker comes.
 use Rattle.std.proofs.Common.{◌≡◌, ℕ, ◌+◌, ◌<◌, ◌≤◌, Bool, true, false, List, [], ◌∷◌, refl, sym, subst, arith}
 use Rattle.std.proofs.lemmas.Bool.{eqb-false, true≢false}
 use Rattle.fcp_model.specs.declared.run.Limits.{Limits}

@@ -1,5 +1,6 @@
 pub mod DeterminedRuns
 pub mod EndingOutcomes
+pub mod LawfulReports
 pub mod LawfulRuns
 pub mod LawfulSchedules
 pub mod Leading

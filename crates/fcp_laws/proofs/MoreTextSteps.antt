@@ -16,7 +16,7 @@ none_before {A = A} f g n m h e = go (f n) refl
     go None i = refl
     go (Some x) i = let there : f m ≡ Some x = at_least f g n m h x i in cc
 
--- texts behind one another
+-- texts after one another
 behind_more : (bs : Bytes) (o o' : Option Written) → Refines o o' → Refines (behind bs o) (behind bs o')
 behind_more bs None o' h = λ x e. cc
 behind_more bs (Some w) o' h = λ x e. rw (h w refl) e

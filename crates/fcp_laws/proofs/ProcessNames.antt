@@ -18,7 +18,7 @@ same_process p q e =
 pub same_itself : (p : Proc) → is_same_process p p ≡ true
 same_itself p = and_from _ _ (eq-eqb p.entry _ refl) (eq-eqb p.number _ refl)
 
--- the head of a list where the test says so, else what was found behind it
+-- the head of a list where the test says so, else what was found after it
 abbrev pub picked : Bool → Process → Option Process → Option Process
 picked b p o = elim b [ true ↦ Some p | _ ↦ o ]
 

@@ -21,7 +21,7 @@ pub record IsFront (n : ℕ) (m : Program) (limits : Limits) (at : Schedule) (p 
   pub passed : at.passed < length at.queue
   pub decided : decide n m at.state.bound p.goal ≡ Some d
 
--- the event of a control, and where the run stands after it
+-- the event of a control, and the schedule after it
 abbrev pub event_of_control : Schedule → Control → Event
 event_of_control at c = control_event at.state (act_entry c.act) (mode_after c.act at.state.mode)
 

@@ -1,4 +1,4 @@
--- What a run of one worker has counted where it stands, and the processes that went to the back of its queue.
+-- What a run of one worker has counted in a schedule, and the processes that went to the back of its queue.
 use Rattle.std.proofs.Common.{◌≡◌, ℕ, zero, suc, ◌+◌, ◌-◌, ◌<◌, ◌≤◌, cond, List, [], ◌∷◌, ◌++◌, length, Option, Some, None, refl, sym, ap, ◌∙◌, subst, zero-add, append_assoc, append-nil, arith}
 use Rattle.std.specs.Prelude.{option_map}
 use Rattle.std.proofs.lemmas.List.{length_push}
@@ -104,7 +104,7 @@ counts_on n m limits at = record {
 pub leads_counts_from : (m : Program) (limits : Limits) (from : Schedule) (evs : List Event) (at : Schedule) → Leads m limits from evs at → IsCounted from evs at
 leads_counts_from m limits from evs at l = by_rulings l.steps m limits CountsOn nothing_counted (counts_on l.steps m limits) l.count from (evs, at) l.followed
 
--- a run from a state stands at the state after its events, with the commits, the moves and the cells of its events
+-- the schedule to which a run comes has the state after its events, with the commits, the moves and the cells of its events
 pub record HasCounted (s : State) (evs : List Event) (at : Schedule) : Type 0 where
   pub state : at.state ≡ last_state s evs
   pub commits : at.commits ≡ commits_in (entries_of evs)

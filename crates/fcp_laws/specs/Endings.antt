@@ -16,7 +16,7 @@ open_outcome limits at = elim at.queue [
   | p ∷ rest ↦ if nat_le limits.commits at.commits || nat_le limits.moves at.moves then Budget else Full
 ]
 
--- the outcome that is read off where a run of one worker stands
+-- the outcome that is read off the last schedule of a run of one worker
 abbrev pub outcome_at : Limits → Schedule → Outcome
 outcome_at limits at = elim at.state.mode [
   | is_failed ↦ Failed

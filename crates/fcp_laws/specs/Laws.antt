@@ -21,7 +21,7 @@ use Rattle.fcp_model.specs.LawfulStates.{IsOrdered}
 use Rattle.fcp_laws.specs.Schedules.{IsSoundSchedule}
 use Rattle.fcp_model.specs.Spelling.{Bytes}
 use Rattle.fcp_model.specs.ReportText.{NamedTerm}
-use Rattle.fcp_model.specs.Reports.{IsOneWorkerReport}
+use Rattle.fcp_model.specs.Reports.{IsRunReport, IsOneWorkerReport}
 use Rattle.fcp_model.specs.LawfulControls.{AreLawful}
 
 -- one decision is made for a goal over a map
@@ -49,7 +49,7 @@ abbrev pub AnEmptyQueueLeavesNoneReady : Type 0
 AnEmptyQueueLeavesNoneReady = (at : Schedule) → IsSoundSchedule at → is_over at.state.mode ≡ false → at.queue ≡ [] → list_any (λ p. is_ready p.status) at.state.processes ≡ false
 
 -- What the run of one worker is by the definitions of runs: its log is a run within the limits in which the controls are
--- kept, and where it stands in the end is the last state, with the log's counts.
+-- kept, and its last schedule has the last state, with the log's counts.
 pub record IsLawfulRun (m : Program) (limits : Limits) (s : State) (controls : List Control) (evs : List Event) (at : Schedule) : Type 0 where
   pub legal : IsRun m s (entries_of evs) evs
   pub last : last_state s evs ≡ at.state
@@ -63,7 +63,7 @@ pub record IsLawfulRun (m : Program) (limits : Limits) (s : State) (controls : L
 abbrev pub OneWorkerRunsAreRuns : Type 0
 OneWorkerRunsAreRuns = (m : Program) (limits : Limits) (s : State) (controls : List Control) (evs : List Event) (at : Schedule) → IsOrdered s → s.mode ≡ is_open → AreLawful controls → IsOneWorkerRun m limits s controls evs at → IsLawfulRun m limits s controls evs at
 
--- a run of one worker ends with the outcome that is read off where it stands
+-- a run of one worker ends with the outcome that is read off its last schedule
 abbrev pub OneWorkerRunsEnd : Type 0
 OneWorkerRunsEnd = (m : Program) (limits : Limits) (s : State) (controls : List Control) (evs : List Event) (at : Schedule) → IsOrdered s → s.mode ≡ is_open → IsOneWorkerRun m limits s controls evs at → Ends m limits s evs (outcome_at limits at)
 
@@ -71,3 +71,8 @@ OneWorkerRunsEnd = (m : Program) (limits : Limits) (s : State) (controls : List 
 abbrev pub ARunHasOneReport : Type 0
 ARunHasOneReport = (m : Program) (s : State) (limits : Limits) (controls : List Control) (names : List Bytes) (variables : List NamedTerm) (o o' : Outcome) (bytes bytes' : Bytes)
     → IsOneWorkerReport m s limits controls names variables o bytes → IsOneWorkerReport m s limits controls names variables o' bytes' → (o ≡ o') × (bytes ≡ bytes')
+
+-- the report of a run of one worker is the report of a lawful run
+abbrev pub OneWorkerReportsAreRunReports : Type 0
+OneWorkerReportsAreRunReports = (m : Program) (s : State) (limits : Limits) (controls : List Control) (names : List Bytes) (variables : List NamedTerm) (o : Outcome) (bytes : Bytes)
+    → IsOrdered s → s.mode ≡ is_open → AreLawful controls → IsOneWorkerReport m s limits controls names variables o bytes → IsRunReport m s limits controls names variables o bytes

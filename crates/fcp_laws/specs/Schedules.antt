@@ -1,4 +1,4 @@
--- What holds wherever a run of one worker stands.
+-- What holds of each schedule to which a run of one worker comes.
 use Rattle.std.specs.Prelude.{◌≡◌, false, List, [], ◌∷◌, Some, None}
 use Rattle.fcp_model.specs.declared.run.Proc.{Proc}
 use Rattle.fcp_model.specs.States.{ready, Process, State, process_named}

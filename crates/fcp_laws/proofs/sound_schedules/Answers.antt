@@ -6,8 +6,8 @@ use Rattle.fcp_laws.proofs.sound_schedules.Goals as goal
 pub returns-clause-start : goal.returns-clause-start
 returns-clause-start c = start_ordered
 
-pub returns-clause-stands : goal.returns-clause-stands
-returns-clause-stands c = λ m limits s controls evs at o l. leads_sound m limits (begin s controls) evs at (begin_sound s controls o) l
+pub returns-clause-schedules : goal.returns-clause-schedules
+returns-clause-schedules c = λ m limits s controls evs at o l. leads_sound m limits (begin s controls) evs at (begin_sound s controls o) l
 
 pub returns-clause-none_ready : goal.returns-clause-none_ready
 returns-clause-none_ready c = none_ready
