@@ -73,7 +73,7 @@ second_true : (x y : Bool) → y ≡ true → (x || y) ≡ true
 second_true true y e = refl
 second_true false y e = e
 
-rise_append : (n : ℕ) (ps qs : List Process) → NamesWithin n ps → Each (λ q. n < q.name.entry) qs → NamesRise ps → NamesRise qs → NamesRise (ps ++ qs)
+pub rise_append : (n : ℕ) (ps qs : List Process) → NamesWithin n ps → Each (λ q. n < q.name.entry) qs → NamesRise ps → NamesRise qs → NamesRise (ps ++ qs)
 rise_append n [] qs w h r i = i
 rise_append n (p ∷ ps) qs w h r i = (
   each_append (λ q. is_older_process p.name q.name ≡ true) ps qs r.0

@@ -36,7 +36,7 @@ order_more f (Some (gives y)) o' (Some (unready rs)) r' h i = λ x e. rw (h _ re
 order_more f (Some bad) o' r r' h i = λ x e. rw (h _ refl) e
 order_more f (Some (unready rs)) o' r r' h i = λ x e. rw (h _ refl) e
 
-eval_more : (s : Bindings) (x : Expr Variable) → Grows (λ n. eval n s x)
+pub eval_more : (s : Bindings) (x : Expr Variable) → Grows (λ n. eval n s x)
 eval_more s (leaf t) n = option_map_more value_of_leaf _ _ (value_more s t n)
 eval_more s (op o a b) n = both_more (apply o) _ _ _ _ (eval_more s a n) (eval_more s b n)
 
@@ -85,7 +85,7 @@ guard_on_more f g h (Some (done bs rs)) o' k = λ x e. rw (k _ refl) (h bs rs x 
 guard_on_more f g h (Some (clash rs)) o' k = λ x e. rw (k _ refl) e
 guard_on_more f g h (Some (wait rs)) o' k = λ x e. rw (k _ refl) e
 
-attempt_more : (s : Bindings) (c : Clause) (args : List (Term Variable)) (behind : Bool) → Grows (λ n. attempt n s c args behind)
+pub attempt_more : (s : Bindings) (c : Clause) (args : List (Term Variable)) (behind : Bool) → Grows (λ n. attempt n s c args behind)
 attempt_more s c args behind n = guard_on_more _ _ (λ bs rs. tests_more s bs behind n rs c.guard) _ _ (unify_more s n [] [] _)
 
 choose_on_more : (f g : Bool → List Variable → Option Decision) → ((b : Bool) (rs : List Variable) → Refines (f b rs) (g b rs)) → (k : ℕ) (behind : Bool) (rs : List Variable) (o o' : Option Tried) → Refines o o' → Refines (choose_on f k behind rs o) (choose_on g k behind rs o')
@@ -94,7 +94,7 @@ choose_on_more f g h k behind rs (Some (succeeds bs qs)) o' r = λ x e. rw (r _ 
 choose_on_more f g h k behind rs (Some (try_fails qs)) o' r = λ x e. rw (r _ refl) (h behind _ x e)
 choose_on_more f g h k behind rs (Some (try_waits qs)) o' r = λ x e. rw (r _ refl) (h false _ x e)
 
-choose_more : (s : Bindings) (args : List (Term Variable)) (n k : ℕ) (behind : Bool) (rs : List Variable) (cs : List Clause) → Refines (choose n s args k behind rs cs) (choose (suc n) s args k behind rs cs)
+pub choose_more : (s : Bindings) (args : List (Term Variable)) (n k : ℕ) (behind : Bool) (rs : List Variable) (cs : List Clause) → Refines (choose n s args k behind rs cs) (choose (suc n) s args k behind rs cs)
 choose_more s args n k behind rs [] = λ x e. e
 choose_more s args n k behind rs (c ∷ cs) = choose_on_more _ _ (λ b qs. choose_more s args n (suc k) b qs cs) k behind rs _ _ (attempt_more s c args behind n)
 
