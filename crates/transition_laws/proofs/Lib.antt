@@ -1,1 +1,5 @@
+pub mod LiveGoals
 pub mod NextEvents
+pub mod OneEntry
+pub mod OrderedEvents
+pub mod Tries
