@@ -1,0 +1,11 @@
+pub mod OverTerms
+pub mod MetTerms
+pub mod MetPairs
+pub mod MetBindings
+pub mod MetSteps
+pub mod MetUnification
+pub mod HeadMarks
+pub mod MetDecisions
+pub mod PlaceLists
+pub mod SettledBindings
+pub mod KeptBindings
