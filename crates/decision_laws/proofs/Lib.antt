@@ -1,0 +1,10 @@
+pub mod AllDecide
+pub mod Guards
+pub mod LawfulDecide
+pub mod Listing
+pub mod Marks
+pub mod Pairs
+pub mod Settling
+pub mod Sizes
+pub mod Unifications
+pub mod Values

@@ -1,0 +1,2 @@
+pub mod DecidableStates
+pub mod Laws
