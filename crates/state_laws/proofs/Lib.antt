@@ -1,7 +1,13 @@
-pub mod ReadDecisions
-pub mod ReadPairs
 pub mod ReadVariables
-pub mod StayingDecisions
+pub mod ReadPairs
+pub mod ReadDecisions
+pub mod UnboundReads
 pub mod StayingPairs
 pub mod StayingTests
-pub mod UnboundReads
+pub mod StayingDecisions
+pub mod StartStates
+pub mod GoalsWithin
+pub mod WaitingPlaces
+pub mod WaitsAfterCommits
+pub mod StatesAfterEntries
+pub mod StatesOfRuns

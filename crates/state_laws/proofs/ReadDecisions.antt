@@ -1,23 +1,23 @@
 -- What is read for a decision is unbound, and has each property of the variables of the goal and of the bindings.
-use Rattle.std.proofs.Common.{◌≡◌, ℕ, zero, suc, Bool, true, false, cond, List, [], ◌∷◌, ◌++◌, map, length, Option, Some, None, append-nil}
-use Rattle.std.specs.Prelude.{ℤ, pos, negsuc, option_map, int_le, int_div, int_rem, ◌&&◌, ◌+ℤ◌, ◌-ℤ◌, ◌*ℤ◌, nat_lt}
+use Rattle.std.proofs.Common.{ℕ, zero, suc, Bool, true, false, cond, List, [], ◌∷◌, ◌++◌, length, Option, Some, None, append-nil}
+use Rattle.std.specs.Prelude.{ℤ, pos, negsuc, option_map, int_le, int_div, int_rem, ◌&&◌, ◌+ℤ◌, ◌-ℤ◌, ◌*ℤ◌}
 use Rattle.std.specs.Ordering.{int_eq}
 use Rattle.fcp_model.specs.declared.term.ArithOp.{ArithOp}
 use Rattle.fcp_model.specs.declared.term.ArithOp.TheVariants.{Add, Sub, Mul, Div, Mod}
 use Rattle.fcp_model.specs.declared.term.CompareOp.{CompareOp}
 use Rattle.fcp_model.specs.Places.{Variable, own, is_same}
 use Rattle.fcp_model.specs.Terms.{Term, number, string, nil, cons, tuple, var, ro, first, Terms, none, more, rename, renames, Bindings}
-use Rattle.fcp_model.specs.Value.{Look, writable, read_only, solid, value, look_reads}
-use Rattle.fcp_model.specs.Pair.{Pair, Step, nothing, binds, clashes, waits, parts, compare, Treated, both_looks}
+use Rattle.fcp_model.specs.Value.{Look, writable, read_only, solid, value}
+use Rattle.fcp_model.specs.Pair.{Pair, Step, nothing, binds, clashes, waits, parts, Treated}
 use Rattle.fcp_model.specs.HeadPairs.{mark, head_pairs}
 use Rattle.fcp_model.specs.Unification.{Ended, done, clash, wait, unify}
 use Rattle.fcp_model.specs.Expressions.{Expr, leaf, op, rename_expr, Evaluated, gives, bad, unready, value_of_leaf, checked, divided, apply, both_values, eval}
-use Rattle.fcp_model.specs.Tests.{Kind, Test, always, otherwise, kind, same, not_same, ordered, rename_test, Tested, holds, fails, pauses, decided, is_kind, kind_open, test_kind, order_of, test_order, same_step, same_pair, same_on, equal_on, is_equal, opposed, test}
+use Rattle.fcp_model.specs.Tests.{Kind, Test, always, otherwise, kind, same, not_same, ordered, rename_test, Tested, holds, fails, pauses, decided, is_kind, kind_open, test_kind, order_of, test_order, same_pair, same_on, equal_on, is_equal, opposed, test}
 use Rattle.fcp_model.specs.Programs.{Goal, user, true', unifies, assigns, Clause, Program, clauses_of}
 use Rattle.fcp_model.specs.Trials.{Tried, succeeds, try_fails, try_waits, test_on, tests, guard_on, attempt}
-use Rattle.fcp_model.specs.Decisions.{Decision, commits, decides_fail, waits_on, choose_on, choose, built_in, assign_on, decide, Decides}
+use Rattle.fcp_model.specs.Decisions.{Decision, choose_on, choose, built_in, assign_on, decide, Decides}
 use Rattle.fcp_model.specs.Reads.{reads_of}
-use Rattle.state_laws.proofs.ReadVariables.{Every, every_both, eval_reads, tested_reads, tried_reads, Gives, given, gives_so}
+use Rattle.state_laws.proofs.ReadVariables.{Every, every_both, eval_reads, tested_reads, tried_reads, Gives, given}
 use Rattle.state_laws.proofs.ReadPairs.{Within, PartsWithin, PairsWithin, BoundWithin, MayRead, LookWithin, StepWithin, TreatedWithin, compare_within, pairs_append, value_within, both_looks_within, read_below, EndWithin, unify_within}
 
 -- each variable of an expression, of terms and of a goal has the property
@@ -113,7 +113,7 @@ module _ (P : Variable → Type 0) (w : Bindings) (bound : BoundWithin P w) wher
   both_within o (Some bad) y h i = tt
   both_within o (Some (unready rs)) y h i = h
 
-  pub eval_within : (n : ℕ) (e : Expr Variable) → ExprWithin P e → Gives (EvalWithin P w) (eval n w e)
+  eval_within : (n : ℕ) (e : Expr Variable) → ExprWithin P e → Gives (EvalWithin P w) (eval n w e)
   eval_within n (leaf t) h = go (value n w t) (value_within P w bound n t h)
     where
       go : (o : Option Look) → Gives (LookWithin P w) o → Gives (EvalWithin P w) (option_map value_of_leaf o)
@@ -201,7 +201,7 @@ module _ (P : Variable → Type 0) (w : Bindings) (bound : BoundWithin P w) wher
   otherwise_within false = tt
 
   -- a test of a clause that is tried
-  pub test_within : (own_has : (k : ℕ) → P (own k)) (n : ℕ) (behind : Bool) (t : Test ℕ)
+  test_within : (own_has : (k : ℕ) → P (own k)) (n : ℕ) (behind : Bool) (t : Test ℕ)
       → Gives (TestWithin P w) (test n w behind (rename_test own t))
   test_within own_has n behind always = tt
   test_within own_has n behind otherwise = otherwise_within behind

@@ -1,12 +1,12 @@
 -- What is read for values, for pairs and for a unification is unbound, and has each property of the variables of terms and bindings.
-use Rattle.std.proofs.Common.{◌≡◌, ℕ, zero, suc, Bool, true, false, cond, List, [], ◌∷◌, ◌++◌, map, Option, Some, None, refl, sym, ap, ◌∙◌, subst, append_assoc}
+use Rattle.std.proofs.Common.{◌≡◌, ℕ, zero, suc, Bool, true, false, cond, List, [], ◌∷◌, ◌++◌, Option, Some, None, refl, sym, ap, ◌∙◌, subst, append_assoc}
 use Rattle.std.specs.Prelude.{nat_eq}
 use Rattle.std.specs.Ordering.{int_eq}
 use Rattle.fcp_model.specs.Places.{Variable, own, is_same, is_older}
-use Rattle.fcp_model.specs.Terms.{Term, number, string, nil, cons, tuple, var, ro, first, Terms, none, more, rename, renames, plain, plains, Bindings, find}
-use Rattle.fcp_model.specs.Value.{Look, writable, read_only, solid, open_place, through, value_of, value, look_reads}
-use Rattle.fcp_model.specs.Occurs.{Found, hit, miss, found, then_found, or_else, walk, walks, behind_leaf, leaf_is, occurs}
-use Rattle.fcp_model.specs.Pair.{Pair, Step, nothing, binds, clashes, waits, parts, both_parts, alike, part_step, compare, Treated, treated, bind_solid, table, both_looks, first_of, pair_on, pair}
+use Rattle.fcp_model.specs.Terms.{Term, number, string, nil, cons, tuple, var, ro, first, Terms, none, more, plain, plains, Bindings, find}
+use Rattle.fcp_model.specs.Value.{Look, writable, read_only, solid, open_place, through, value_of, value}
+use Rattle.fcp_model.specs.Occurs.{Found, hit, miss, found, or_else, walk, walks, behind_leaf, leaf_is, occurs}
+use Rattle.fcp_model.specs.Pair.{Pair, Step, nothing, binds, clashes, waits, parts, both_parts, alike, part_step, compare, Treated, bind_solid, table, both_looks, first_of, pair_on, pair}
 use Rattle.fcp_model.specs.Unification.{Ended, done, clash, wait, Next, step_on, go_on, unify}
 use Rattle.fcp_model.proofs.Finding.{found_or, find-append}
 use Rattle.state_laws.proofs.ReadVariables.{Every, every_both, every_so, found_reads, Gives}
@@ -59,7 +59,7 @@ abbrev pub TreatedWithin : (Variable → Type 0) → Bindings → Treated → Ty
 TreatedWithin P w t = Every (MayRead P w) t.reads × StepWithin P t.step
 
 mutual
-  pub plain_within : (P : Variable → Type 0) (t : Term Variable) → Within P t → Within P (plain t)
+  plain_within : (P : Variable → Type 0) (t : Term Variable) → Within P t → Within P (plain t)
   plain_within P (number z) h = tt
   plain_within P (string z) h = tt
   plain_within P nil h = tt
@@ -232,7 +232,7 @@ module _ (P : Variable → Type 0) (w : Bindings) (bound : BoundWithin P w) wher
       → Within P a → Within P b → Gives (TreatedWithin P w) (both_looks f (value n w a) (value n w b))
   both_looks_within f g n a b h i = looks_within f g (value n w a) (value n w b) (value_within n a h) (value_within n b i)
 
-  pub pair_within : (n : ℕ) (a b : Term Variable) → Within P a → Within P b → Gives (TreatedWithin P w) (pair n w a b)
+  pair_within : (n : ℕ) (a b : Term Variable) → Within P a → Within P b → Gives (TreatedWithin P w) (pair n w a b)
   pair_within n a b h i = go (first_of b)
     where
       go : (o : Option ℕ) → Gives (TreatedWithin P w) (pair_on n w a b o)
@@ -240,7 +240,7 @@ module _ (P : Variable → Type 0) (w : Bindings) (bound : BoundWithin P w) wher
       go None = both_looks_within (table n w) (table_within n) n a b h i
 
 -- one binding more
-pub bound_append : (P : Variable → Type 0) (s bs : Bindings) (p : Variable) (t : Term Variable) → BoundWithin P (s ++ bs) → Within P t
+bound_append : (P : Variable → Type 0) (s bs : Bindings) (p : Variable) (t : Term Variable) → BoundWithin P (s ++ bs) → Within P t
     → BoundWithin P (s ++ (bs ++ (p, t) ∷ []))
 bound_append P s bs p t h i v u e =
     go (find (s ++ bs) v) (is_same p v) refl

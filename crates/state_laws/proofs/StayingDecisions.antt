@@ -1,6 +1,6 @@
 -- A decision stays over a map that binds more places, as long as what was read for it is unbound in it.
-use Rattle.std.proofs.Common.{◌≡◌, ℕ, suc, Bool, true, false, List, [], ◌∷◌, ◌++◌, length, Option, Some, None, refl, ap, ◌∙◌, subst}
-use Rattle.std.specs.Prelude.{ℤ, option_map}
+use Rattle.std.proofs.Common.{ℕ, suc, Bool, true, false, List, [], ◌∷◌, ◌++◌, length, Option, Some, None, refl, ap, ◌∙◌, subst}
+use Rattle.std.specs.Prelude.{option_map}
 use Rattle.fcp_model.specs.Places.{Variable, own}
 use Rattle.fcp_model.specs.Terms.{Term, number, Bindings}
 use Rattle.fcp_model.specs.Pair.{Pair}
@@ -10,10 +10,10 @@ use Rattle.fcp_model.specs.Expressions.{Expr, Evaluated, gives, bad, unready, ev
 use Rattle.fcp_model.specs.Tests.{Test, rename_test, Tested, holds, fails, pauses, test}
 use Rattle.fcp_model.specs.Programs.{Goal, user, true', unifies, assigns, Clause, Program, clauses_of}
 use Rattle.fcp_model.specs.Trials.{Tried, succeeds, try_fails, try_waits, test_on, tests, guard_on, attempt}
-use Rattle.fcp_model.specs.Decisions.{Decision, commits, decides_fail, waits_on, choose_on, choose, built_in, assign_on, decide}
+use Rattle.fcp_model.specs.Decisions.{commits, choose_on, choose, built_in, assign_on, decide}
 use Rattle.fcp_model.specs.Reads.{reads_of, IsPart, BindsPlaces}
 use Rattle.state_laws.specs.Laws.{ADecisionStays}
-use Rattle.state_laws.proofs.ReadVariables.{Every, every_right, every_so, IsUnbound, each_unbound, eval_reads, tested_reads, tried_reads, Stays, ReadsOn, stays_behind, reads_before}
+use Rattle.state_laws.proofs.ReadVariables.{every_right, every_so, IsUnbound, each_unbound, eval_reads, tested_reads, tried_reads, Stays, ReadsOn, stays_behind, reads_before}
 use Rattle.state_laws.proofs.StayingPairs.{IsStill, AreApart, part_over, still_over, EndStays, unify_stays}
 use Rattle.state_laws.proofs.StayingTests.{eval_stays, test_stays}
 

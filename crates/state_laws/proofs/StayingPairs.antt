@@ -54,7 +54,7 @@ module _ (P : Variable → Type 0) where
   bind_stays p t (Some (miss rs)) o' h = λ g. ap (bind_solid p t) (h g.1)
 
 -- what is bound is the variable of a step that binds
-abbrev pub BindsOnly : (Variable → Type 0) → Step → Type 0
+abbrev BindsOnly : (Variable → Type 0) → Step → Type 0
 BindsOnly P (binds p t) = P p
 BindsOnly P nothing = Unit {0}
 BindsOnly P clashes = Unit {0}
@@ -66,7 +66,7 @@ abbrev pub ReadsLooks : (Variable → Type 0) → Look → Look → Treated → 
 ReadsLooks P l m x = Every P x.reads → Every P (look_reads l) × Every P (look_reads m)
 
 -- what is bound was read
-abbrev pub BindsRead : (Variable → Type 0) → Treated → Type 0
+abbrev BindsRead : (Variable → Type 0) → Treated → Type 0
 BindsRead P x = Every P x.reads → BindsOnly P x.step
 
 module _ (P : Variable → Type 0) (n : ℕ) (w : Bindings) where
@@ -122,7 +122,7 @@ module _ (P : Variable → Type 0) (n : ℕ) (w : Bindings) where
   table_binds (read_only p) (writable q) = λ g. if_apart (is_same p q) _ g.1.0
   table_binds (read_only p) (read_only q) = λ g. if_apart (is_same p q) waits tt
 
-  pub pair_binds : ((k : ℕ) → P (own k)) → (a b : Term Variable) → Gives (BindsRead P) (pair n w a b)
+  pair_binds : ((k : ℕ) → P (own k)) → (a b : Term Variable) → Gives (BindsRead P) (pair n w a b)
   pair_binds own_has a b = go (first_of b)
     where
       two : (o r : Option Look) → Gives (BindsRead P) (both_looks (table n w) o r)
@@ -212,7 +212,7 @@ module _ (w w' : Bindings) (part : IsPart w w') where
           go None j k = tt
           go (Some x) j k = λ g. ap (λ y. both_looks f' y (value n w' b)) (h (k g).0) ∙ (ap (both_looks f' (Some l)) (i (k g).1) ∙ j g)
 
-  pub pair_stays : (n : ℕ) (a b : Term Variable) → Stays treated_reads Still (pair n w a b) (pair n w' a b)
+  pair_stays : (n : ℕ) (a b : Term Variable) → Stays treated_reads Still (pair n w a b) (pair n w' a b)
   pair_stays n a b = go (first_of b)
     where
       go : (o : Option ℕ) → Stays treated_reads Still (pair_on n w a b o) (pair_on n w' a b o)
@@ -237,7 +237,7 @@ found_apart s (b ∷ bs) p t h e = go (found_apart s bs p t h.1) (is_same b.0 p)
     go rec false f g = rec g
 
 -- the bindings of a unification that ends well are of unbound variables
-abbrev pub EndsApart : Bindings → Ended → Type 0
+abbrev EndsApart : Bindings → Ended → Type 0
 EndsApart s (done bs rs) = AreApart s bs
 EndsApart s (clash rs) = Unit {0}
 EndsApart s (wait rs) = Unit {0}

@@ -1,5 +1,5 @@
 -- Expressions and tests stay over a map that binds more, as long as what was read is unbound in it.
-use Rattle.std.proofs.Common.{◌≡◌, ℕ, zero, suc, Bool, List, [], ◌∷◌, ◌++◌, Option, Some, None, refl, ap, ◌∙◌}
+use Rattle.std.proofs.Common.{ℕ, zero, suc, Bool, List, [], ◌∷◌, ◌++◌, Option, Some, None, refl, ap, ◌∙◌}
 use Rattle.std.specs.Prelude.{ℤ, option_map}
 use Rattle.fcp_model.specs.declared.term.CompareOp.{CompareOp}
 use Rattle.fcp_model.specs.Places.{Variable}

@@ -1,6 +1,6 @@
 -- What is read for a decision is unbound.
-use Rattle.std.proofs.Common.{◌≡◌, ℕ, List, [], ◌∷◌}
-use Rattle.fcp_model.specs.Places.{Variable, own}
+use Rattle.std.proofs.Common.{List, [], ◌∷◌}
+use Rattle.fcp_model.specs.Places.{Variable}
 use Rattle.fcp_model.specs.Terms.{Term, number, string, nil, cons, tuple, var, ro, first, Terms, none, more, Bindings}
 use Rattle.fcp_model.specs.Expressions.{Expr, leaf, op}
 use Rattle.fcp_model.specs.Programs.{Goal, user, true', unifies, assigns}
