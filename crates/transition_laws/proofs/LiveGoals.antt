@@ -1,6 +1,6 @@
 -- The goals of the live processes, before and after a move.
-use Rattle.std.proofs.Common.{◌≡◌, ℕ, suc, Bool, true, false, cond, List, [], ◌∷◌, ◌++◌, map, Option, Some, None, refl, sym, ap, ◌∙◌, subst}
-use Rattle.std.specs.Prelude.{not, filter}
+use Rattle.std.proofs.Common.{◌≡◌, ℕ, suc, Bool, true, false, cond, List, [], ◌∷◌, ◌++◌, map, Some, refl, sym, ap, ◌∙◌, subst}
+use Rattle.std.specs.Prelude.{not}
 use Rattle.std.proofs.lemmas.Bool.{true≢false}
 use Rattle.std.proofs.lemmas.List.{map-append}
 use Rattle.std.proofs.lemmas.List.Elements.{filter-append}
@@ -16,11 +16,11 @@ use Rattle.fcp_laws.proofs.ProcessNames.{picked, each_so, older_apart}
 use Rattle.transition_laws.specs.Transitions.{live, live_goals}
 
 -- one process more, by whether it is finished
-abbrev with_goal : Bool → Goal Variable → List (Goal Variable) → List (Goal Variable)
+abbrev pub with_goal : Bool → Goal Variable → List (Goal Variable) → List (Goal Variable)
 with_goal true g gs = gs
 with_goal false g gs = g ∷ gs
 
-live_cons : (p : Process) (ps : List Process) → live_goals (p ∷ ps) ≡ with_goal (is_finished p.status) p.goal (live_goals ps)
+pub live_cons : (p : Process) (ps : List Process) → live_goals (p ∷ ps) ≡ with_goal (is_finished p.status) p.goal (live_goals ps)
 live_cons p ps = go (is_finished p.status)
   where
     go : (b : Bool) → map (λ q. q.goal) (cond (not b) (p ∷ live ps) (live ps)) ≡ with_goal b p.goal (live_goals ps)

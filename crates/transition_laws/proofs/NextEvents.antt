@@ -1,6 +1,6 @@
 -- The event of a next entry, by what makes it: a process for which a decision is made, or a control.
 use Rattle.std.proofs.Common.{◌≡◌, ℕ, Bool, true, false, cond, Option, Some, None, refl, sym, ap, ◌∙◌, subst}
-use Rattle.std.specs.Prelude.{option_map, ◌||◌, ◌&&◌}
+use Rattle.std.specs.Prelude.{option_map, ◌&&◌}
 use Rattle.std.proofs.lemmas.Bool.{true≢false, eqb-true, and_parts, and_from, eq-eqb}
 use Rattle.fcp_model.specs.declared.run.Proc.{Proc}
 use Rattle.fcp_model.specs.declared.run.Entry.{Entry}
@@ -9,7 +9,7 @@ use Rattle.fcp_model.specs.declared.run.Act.{Act}
 use Rattle.fcp_model.specs.declared.run.Act.TheVariants as act
 use Rattle.fcp_model.specs.Programs.{Program}
 use Rattle.fcp_model.specs.Decisions.{Decision, commits, decides_fail, waits_on, decide}
-use Rattle.fcp_model.specs.States.{Status, ready, waiting, finished, Process, State, Mode, is_open, is_held, is_failed, is_aborted, is_ready, is_running, is_suspended, process_named}
+use Rattle.fcp_model.specs.States.{ready, Process, State, Mode, is_open, is_held, is_failed, is_aborted, is_ready, is_running, process_named}
 use Rattle.fcp_model.specs.Events.{Event, event_of, control_event}
 use Rattle.fcp_model.specs.Bounds.{act_entry}
 use Rattle.fcp_model.specs.OneWorker.{mode_after}

@@ -1,16 +1,15 @@
 -- Each event of an ordered state leaves an ordered state.
-use Rattle.std.proofs.Common.{◌≡◌, ℕ, suc, ◌<◌, ◌≤◌, List, [], ◌∷◌, ◌++◌, map, Some, refl, ◌∙◌, arith}
-use Rattle.fcp_model.specs.declared.run.Place.{Place}
+use Rattle.std.proofs.Common.{◌≡◌, ℕ, suc, ◌<◌, ◌≤◌, List, map, Some, ◌∙◌, arith}
 use Rattle.fcp_model.specs.declared.run.Entry.{Entry}
 use Rattle.fcp_model.specs.Places.{places_among}
-use Rattle.fcp_model.specs.Terms.{Bindings}
-use Rattle.fcp_model.specs.Programs.{Clause, Program}
+use Rattle.fcp_model.specs.Programs.{Program}
 use Rattle.fcp_model.specs.Decisions.{Decision, commits, decides_fail, waits_on}
-use Rattle.fcp_model.specs.States.{waiting, finished, Process, State}
+use Rattle.fcp_model.specs.States.{waiting, finished, Process, State, Mode}
 use Rattle.fcp_model.specs.Cells.{clause_used}
 use Rattle.fcp_model.specs.Events.{Event, with_status, children_of, event_of}
+use Rattle.fcp_model.specs.OneWorker.{mode_after}
 use Rattle.fcp_model.specs.Runs.{next}
-use Rattle.fcp_model.specs.LawfulStates.{Each, NamesWithin, IsOrdered}
+use Rattle.fcp_model.specs.LawfulStates.{NamesWithin, IsOrdered}
 use Rattle.fcp_laws.proofs.ProcessNames.{each_map, rise_map, each_so, each_append}
 use Rattle.fcp_laws.proofs.WaitingProcesses.{with_status-name, wake-name}
 use Rattle.fcp_laws.proofs.QueueMoves.{rise_append, children_entry, children_rise}
@@ -58,7 +57,7 @@ after_move m s p (decides_fail rs) h = record { rise = h.rise; within = within_m
 pub ordered_after : (n : ℕ) (m : Program) (s : State) (e : Entry) (ev : Event) → IsOrdered s → next n m s e ≡ Some ev → IsOrdered ev.after
 ordered_after n m s e ev h i =
     by_next n m s (λ e' ev'. IsOrdered ev'.after)
-    (record { at_move = λ p d g. after_move m s p d h; at_control = λ a f. one_more }) e ev i
+    (record { at_move = λ p d g. after_move m s p d h; at_control = λ a f. one_more (mode_after a s.mode) }) e ev i
   where
-    one_more : IsOrdered (record s { entries = suc s.entries })
-    one_more = record { rise = h.rise; within = within_more s.entries s.processes h.within }
+    one_more : (mode : Mode) → IsOrdered (record s { entries = suc s.entries; mode = mode })
+    one_more mode = record { rise = h.rise; within = within_more s.entries s.processes h.within }

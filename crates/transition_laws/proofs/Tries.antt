@@ -14,8 +14,8 @@ use Rattle.fcp_model.specs.Decisions.{Decision, commits, decides_fail, waits_on,
 use Rattle.fcp_model.specs.Cells.{clause_used}
 use Rattle.fcp_model.specs.Events.{body_of}
 use Rattle.fcp_model.proofs.MoreSteps.{Refines, Grows, at_least, unify_more}
-use Rattle.fcp_model.proofs.OneDecision.{attempt_more, choose_more, eval_more}
-use Rattle.transition_laws.specs.Transitions.{TryEnds, TryFails, NoneSucceeds, EachFails, UnifyWith, DoNotUnify, Evaluates, CallReduces, GoalReduces, GoalFails}
+use Rattle.fcp_model.proofs.OneDecision.{attempt_more, choose_more, eval_more, one_decision}
+use Rattle.transition_laws.specs.Transitions.{TryEnds, NoneSucceeds, EachFails, UnifyWith, DoNotUnify, Evaluates, CallReduces, GoalReduces, GoalFails}
 
 -- as many steps as either of two needs
 fewer_left : {A : Type 0} (f : ℕ → Option A) → Grows f → (n k : ℕ) → Refines (f n) (f (n + k))
@@ -109,58 +109,50 @@ module _ (n : ℕ) (s : Bindings) (args : List (Term Variable)) where
           (h.0, ((qs', (n, subst (λ b. attempt n s c args b ≡ Some (try_fails qs')) h.0 f)), h.1))
       go (Some (try_waits qs')) f rec i = absurd (true≢false (sym (rec false _ i).0))
 
--- the other way: a commit or a fail that is decided, by some number of steps
+-- the other way: what is decided by some number of steps, with some reads
 module _ (s : Bindings) (args : List (Term Variable)) where
-  abbrev ChoiceIs : ℕ → Bool → List Variable → List Clause → (Decision → Type 0) → Type 0
-  ChoiceIs k failed rs cs P = (d : Decision) × P d × (n : ℕ) × (choose n s args k failed rs cs ≡ Some d)
+  abbrev ChoiceIs : ℕ → Bool → List Variable → List Clause → (List Variable → Decision) → Type 0
+  ChoiceIs k failed rs cs d = (qs : List Variable) × (n : ℕ) × (choose n s args k failed rs cs ≡ Some (d qs))
 
   -- the choice after one more try, which ends so that the next one goes on with `next` and these reads
-  after_try : (k : ℕ) (failed next : Bool) (rs rs' : List Variable) (c : Clause) (cs : List Clause) (t : Tried) (P : Decision → Type 0) →
-      ((f : Bool → List Variable → Option Decision) → choose_on f k failed rs (Some t) ≡ f next rs') →
-      TryEnds s args failed c t → ChoiceIs (suc k) next rs' cs P → ChoiceIs k failed rs (c ∷ cs) P
-  after_try k failed next rs rs' c cs t P goes (n, e) (d, p, i, h) =
-      (d, p, n + i, tried ∙ (goes (λ b qs. choose (n + i) s args (suc k) b qs cs) ∙ rest))
+  after_try : (k : ℕ) (failed next : Bool) (rs rs' : List Variable) (c : Clause) (cs : List Clause) (t : Tried)
+      (d : List Variable → Decision) → ((f : Bool → List Variable → Option Decision) → choose_on f k failed rs (Some t) ≡ f next rs') →
+      TryEnds s args failed c t → ChoiceIs (suc k) next rs' cs d → ChoiceIs k failed rs (c ∷ cs) d
+  after_try k failed next rs rs' c cs t d goes (n, e) (qs, i, h) = (qs, n + i, tried ∙ (goes later ∙ rest))
     where
-      tried : choose (n + i) s args k failed rs (c ∷ cs) ≡ choose_on (λ b qs. choose (n + i) s args (suc k) b qs cs) k failed rs (Some t)
+      later : Bool → List Variable → Option Decision
+      later b qs' = choose (n + i) s args (suc k) b qs' cs
+
+      tried : choose (n + i) s args k failed rs (c ∷ cs) ≡ choose_on later k failed rs (Some t)
+      tried = ap (choose_on later k failed rs) (fewer_left (λ j. attempt j s c args failed) (attempt_more s c args failed) n i t e)
+
+      rest : choose (n + i) s args (suc k) next rs' cs ≡ Some (d qs)
+      rest = fewer_right (λ j. choose j s args (suc k) next rs' cs) (λ j. choose_more s args j (suc k) next rs' cs) n i (d qs) h
+
+  choice_commits : (k j : ℕ) (failed all_failed : Bool) (rs : List Variable) (earlier : List Clause) (c : Clause) (later : List Clause)
+      (bs : Bindings) (qs : List Variable) → j ≡ k + length earlier → NoneSucceeds s args failed earlier all_failed →
+      TryEnds s args all_failed c (succeeds bs qs) → ChoiceIs k failed rs (earlier ++ c ∷ later) (commits j bs)
+  choice_commits k j failed all_failed rs [] c later bs qs at h (n, e) =
+      (rs ++ qs, n, tried ∙ ap (λ x. Some (commits x bs (rs ++ qs))) same)
+    where
+      same : k ≡ j
+      same = omega (arith, at)
+
+      tried : choose n s args k failed rs (c ∷ later) ≡ Some (commits k bs (rs ++ qs))
       tried =
-          ap (choose_on (λ b qs. choose (n + i) s args (suc k) b qs cs) k failed rs)
-          (fewer_left (λ j. attempt j s c args failed) (attempt_more s c args failed) n i t e)
+          ap (choose_on (λ b qs'. choose n s args (suc k) b qs' later) k failed rs)
+          (subst (λ b. attempt n s c args b ≡ Some (succeeds bs qs)) (sym h) e)
+  choice_commits k j failed all_failed rs (d ∷ ds) c later bs qs at (inl (t, h)) i =
+      after_try k failed failed rs (rs ++ t.0) d (ds ++ c ∷ later) (try_fails t.0) (commits j bs) (λ f. refl) t.1
+      (choice_commits (suc k) j failed all_failed (rs ++ t.0) ds c later bs qs (omega (arith, at)) h i)
+  choice_commits k j failed all_failed rs (d ∷ ds) c later bs qs at (inr (t, h)) i =
+      after_try k failed false rs (rs ++ t.0) d (ds ++ c ∷ later) (try_waits t.0) (commits j bs) (λ f. refl) t.1
+      (choice_commits (suc k) j false all_failed (rs ++ t.0) ds c later bs qs (omega (arith, at)) h i)
 
-      rest : choose (n + i) s args (suc k) next rs' cs ≡ Some d
-      rest = fewer_right (λ j. choose j s args (suc k) next rs' cs) (λ j. choose_more s args j (suc k) next rs' cs) n i d h
-
-  abbrev IsCommitWith : Bindings → Decision → Type 0
-  IsCommitWith bs (commits k bs' rs) = bs' ≡ bs
-  IsCommitWith bs (decides_fail rs) = ⊥
-  IsCommitWith bs (waits_on rs) = ⊥
-
-  abbrev IsFail : Decision → Type 0
-  IsFail (commits k bs rs) = ⊥
-  IsFail (decides_fail rs) = Unit {0}
-  IsFail (waits_on rs) = ⊥
-
-  choice_commits : (k : ℕ) (failed all_failed : Bool) (rs : List Variable) (earlier : List Clause) (c : Clause) (later : List Clause)
-      (bs : Bindings) (qs : List Variable) →
-      NoneSucceeds s args failed earlier all_failed → TryEnds s args all_failed c (succeeds bs qs) → ChoiceIs k failed rs
-      (earlier ++ c ∷ later) (IsCommitWith bs)
-  choice_commits k failed all_failed rs [] c later bs qs h (n, e) = (
-    commits k bs (rs ++ qs),
-    refl,
-    n,
-    ap (choose_on (λ b qs'. choose n s args (suc k) b qs' later) k failed rs)
-        (subst (λ b. attempt n s c args b ≡ Some (succeeds bs qs)) (sym h) e),
-  )
-  choice_commits k failed all_failed rs (d ∷ ds) c later bs qs (inl (t, h)) i =
-      after_try k failed failed rs (rs ++ t.0) d (ds ++ c ∷ later) (try_fails t.0) (IsCommitWith bs) (λ f. refl) t.1
-      (choice_commits (suc k) failed all_failed (rs ++ t.0) ds c later bs qs h i)
-  choice_commits k failed all_failed rs (d ∷ ds) c later bs qs (inr (t, h)) i =
-      after_try k failed false rs (rs ++ t.0) d (ds ++ c ∷ later) (try_waits t.0) (IsCommitWith bs) (λ f. refl) t.1
-      (choice_commits (suc k) false all_failed (rs ++ t.0) ds c later bs qs h i)
-
-  choice_fails : (k : ℕ) (rs : List Variable) (cs : List Clause) → EachFails s args cs → ChoiceIs k true rs cs IsFail
-  choice_fails k rs [] h = (decides_fail rs, tt, 0, refl)
+  choice_fails : (k : ℕ) (rs : List Variable) (cs : List Clause) → EachFails s args cs → ChoiceIs k true rs cs decides_fail
+  choice_fails k rs [] h = (rs, 0, refl)
   choice_fails k rs (c ∷ cs) (t, h) =
-      after_try k true true rs (rs ++ t.0) c cs (try_fails t.0) IsFail (λ f. refl) t.1 (choice_fails (suc k) (rs ++ t.0) cs h)
+      after_try k true true rs (rs ++ t.0) c cs (try_fails t.0) decides_fail (λ f. refl) t.1 (choice_fails (suc k) (rs ++ t.0) cs h)
 
 -- a goal for which a commit is decided reduces by the clause of that number, and the other way
 chosen_clause : (cs earlier : List Clause) (c : Clause) (later : List Clause) → cs ≡ earlier ++ c ∷ later →
@@ -170,7 +162,7 @@ chosen_clause cs earlier c later e =
     (omega (arith, length-append earlier (c ∷ later))) (sym (get_or-append_seam earlier c later c)))
 
 call_reduces : (n : ℕ) (m : Program) (s : Bindings) (p : ℕ) (args : List (Term Variable)) (k : ℕ) (bs : Bindings) (rs : List Variable) →
-    choose n s args 1 true [] (clauses_of m p (length args)) ≡ Some (commits k bs rs) → CallReduces m s p args bs
+    choose n s args 1 true [] (clauses_of m p (length args)) ≡ Some (commits k bs rs) → CallReduces m s p args k bs
     (body_of (clause_used m (user p args) k))
 call_reduces n m s p args k bs rs e =
     let h = chosen n s args 1 true [] (clauses_of m p (length args)) k bs rs e in
@@ -182,6 +174,7 @@ call_reduces n m s p args k bs rs e =
       clause = h.clause;
       later = h.later;
       clauses = h.split;
+      number = at;
       failed = h.all_failed;
       tries = h.tries;
       reads = h.reads;
@@ -191,13 +184,16 @@ call_reduces n m s p args k bs rs e =
 
 module _ (n : ℕ) (m : Program) (s : Bindings) where
   unify_commits : (t u : Term Variable) (k : ℕ) (bs : Bindings) (rs : List Variable) →
-      option_map (built_in []) (unify n s [] [] ((t, u) ∷ [])) ≡ Some (commits k bs rs) → UnifyWith s t u bs
+      option_map (built_in []) (unify n s [] [] ((t, u) ∷ [])) ≡ Some (commits k bs rs) → (k ≡ 0) × UnifyWith s t u bs
   unify_commits t u k bs rs e = go (unify n s [] [] ((t, u) ∷ [])) refl e
     where
       go : (o : Option Ended) → unify n s [] [] ((t, u) ∷ []) ≡ o → option_map (built_in []) o ≡ Some (commits k bs rs) →
-          UnifyWith s t u bs
+          (k ≡ 0) × UnifyWith s t u bs
       go None f i = absurd cc
-      go (Some (done bs' qs)) f i = let same : bs' ≡ bs = cc in (qs, (n, f ∙ ap (λ x. Some (done x qs)) same))
+      go (Some (done bs' qs)) f i =
+          let same : bs' ≡ bs = cc in
+          let built : 0 ≡ k = cc in
+          (sym built, (qs, (n, f ∙ ap (λ x. Some (done x qs)) same)))
       go (Some (clash qs)) f i = absurd cc
       go (Some (wait qs)) f i = absurd cc
 
@@ -212,14 +208,14 @@ module _ (n : ℕ) (m : Program) (s : Bindings) where
       go (Some (wait qs)) f i = absurd cc
 
   assign_commits : (t : Term Variable) (e : Expr Variable) (k : ℕ) (bs : Bindings) (rs : List Variable) →
-      decide n m s (assigns t e) ≡ Some (commits k bs rs) → GoalReduces m s (assigns t e) bs []
+      decide n m s (assigns t e) ≡ Some (commits k bs rs) → GoalReduces m s (assigns t e) k bs []
   assign_commits t e k bs rs h = go (eval n s e) refl h
     where
       go : (o : Option Evaluated) → eval n s e ≡ o →
           assign_on (λ z. option_map (built_in []) (unify n s [] [] ((t, number z) ∷ []))) o ≡ Some (commits k bs rs) →
-          GoalReduces m s (assigns t e) bs []
+          GoalReduces m s (assigns t e) k bs []
       go None f i = absurd cc
-      go (Some (gives z)) f i = ((z, (n, f), unify_commits t (number z) k bs rs i), refl)
+      go (Some (gives z)) f i = let u = unify_commits t (number z) k bs rs i in (u.0, refl, (z, (n, f), u.1))
       go (Some bad) f i = absurd cc
       go (Some (unready qs)) f i = absurd cc
 
@@ -236,10 +232,13 @@ module _ (n : ℕ) (m : Program) (s : Bindings) where
       go (Some (unready qs)) f i = absurd cc
 
   pub reduces_by : (g : Goal Variable) (k : ℕ) (bs : Bindings) (rs : List Variable) → decide n m s g ≡ Some (commits k bs rs) →
-      GoalReduces m s g bs (body_of (clause_used m g k))
+      GoalReduces m s g k bs (body_of (clause_used m g k))
   reduces_by (user p args) k bs rs e = call_reduces n m s p args k bs rs e
-  reduces_by true' k bs rs e = let none : bs ≡ [] = cc in (none, refl)
-  reduces_by (unifies t u) k bs rs e = (unify_commits t u k bs rs e, refl)
+  reduces_by true' k bs rs e =
+      let built : 0 ≡ k = cc in
+      let none : bs ≡ [] = cc in
+      (sym built, refl, none)
+  reduces_by (unifies t u) k bs rs e = let h = unify_commits t u k bs rs e in (h.0, refl, h.1)
   reduces_by (assigns t x) k bs rs e = assign_commits t x k bs rs e
 
   pub fails_so : (g : Goal Variable) (rs : List Variable) → decide n m s g ≡ Some (decides_fail rs) → GoalFails m s g
@@ -248,32 +247,27 @@ module _ (n : ℕ) (m : Program) (s : Bindings) where
   fails_so (unifies t u) rs e = unify_fails t u rs e
   fails_so (assigns t x) rs e = assign_fails t x rs e
 
--- that a commit with these bindings is decided for a goal, or a fail
-abbrev pub CommitsWith : Program → Bindings → Goal Variable → Bindings → Type 0
-CommitsWith m s g bs = (k : ℕ) × (rs : List Variable) × Decides m s g (commits k bs rs)
+-- that a commit by a clause with some bindings is decided for a goal, a fail, or a wait
+abbrev pub DecidesCommit : Program → Bindings → Goal Variable → ℕ → Bindings → Type 0
+DecidesCommit m s g k bs = (rs : List Variable) × Decides m s g (commits k bs rs)
 
 abbrev pub DecidesFail : Program → Bindings → Goal Variable → Type 0
 DecidesFail m s g = (rs : List Variable) × Decides m s g (decides_fail rs)
 
+abbrev pub DecidesWait : Program → Bindings → Goal Variable → Type 0
+DecidesWait m s g = (rs : List Variable) × Decides m s g (waits_on rs)
+
 module _ (m : Program) (s : Bindings) where
-  call_commits : (p : ℕ) (args : List (Term Variable)) (bs : Bindings) (body : List (Goal ℕ)) → CallReduces m s p args bs body →
-      CommitsWith m s (user p args) bs
-  call_commits p args bs body h =
-      of (subst (λ cs. ChoiceIs s args 1 true [] cs (IsCommitWith s args bs)) (sym h.clauses)
-      (choice_commits s args 1 true h.failed [] h.earlier h.clause h.later bs h.reads h.tries h.success))
-    where
-      of : ChoiceIs s args 1 true [] (clauses_of m p (length args)) (IsCommitWith s args bs) → CommitsWith m s (user p args) bs
-      of (commits k bs' rs, e, n, h) = (k, rs, (n, h ∙ ap (λ x. Some (commits k x rs)) e))
-      of (decides_fail rs, e, n, h) = absurd e
-      of (waits_on rs, e, n, h) = absurd e
+  call_commits : (p : ℕ) (args : List (Term Variable)) (k : ℕ) (bs : Bindings) (body : List (Goal ℕ)) →
+      CallReduces m s p args k bs body → DecidesCommit m s (user p args) k bs
+  call_commits p args k bs body h =
+      let at : k ≡ suc (length h.earlier) = h.number in
+      let (qs, n, e) = subst (λ cs. ChoiceIs s args 1 true [] cs (commits k bs)) (sym h.clauses)
+      (choice_commits s args 1 k true h.failed [] h.earlier h.clause h.later bs h.reads (omega (arith, at)) h.tries h.success) in
+      (qs, (n, e))
 
   call_fails : (p : ℕ) (args : List (Term Variable)) → EachFails s args (clauses_of m p (length args)) → DecidesFail m s (user p args)
-  call_fails p args h = of (choice_fails s args 1 [] (clauses_of m p (length args)) h)
-    where
-      of : ChoiceIs s args 1 true [] (clauses_of m p (length args)) (IsFail s args) → DecidesFail m s (user p args)
-      of (commits k bs' rs, e, n, h) = absurd e
-      of (decides_fail rs, e, n, h) = (rs, (n, h))
-      of (waits_on rs, e, n, h) = absurd e
+  call_fails p args h = let (qs, n, e) = choice_fails s args 1 [] (clauses_of m p (length args)) h in (qs, (n, e))
 
   -- a number that is given, and then unified
   assigned : (t : Term Variable) (e : Expr Variable) (z : ℤ) (x : Ended) → Evaluates s e (gives z) → (n : ℕ) →
@@ -286,11 +280,15 @@ module _ (m : Program) (s : Bindings) where
         (fewer_right (λ j. unify j s [] [] ((t, number z) ∷ [])) (λ j. unify_more s j [] [] ((t, number z) ∷ [])) i n x h),
   )
 
-  pub commits_with : (g : Goal Variable) (bs : Bindings) (body : List (Goal ℕ)) → GoalReduces m s g bs body → CommitsWith m s g bs
-  commits_with (user p args) bs body h = call_commits p args bs body h
-  commits_with true' bs body h = (0, [], (0, ap (λ x. Some (commits 0 x [])) (sym h.0)))
-  commits_with (unifies t u) bs body ((rs, (n, e)), none) = (0, rs, (n, ap (option_map (built_in [])) e))
-  commits_with (assigns t x) bs body ((z, v, (rs, (n, e))), none) = (0, rs, assigned t x z (done bs rs) v n e)
+  pub decides_commit : (g : Goal Variable) (k : ℕ) (bs : Bindings) (body : List (Goal ℕ)) → GoalReduces m s g k bs body →
+      DecidesCommit m s g k bs
+  decides_commit (user p args) k bs body h = call_commits p args k bs body h
+  decides_commit true' k bs body (zero_k, none, no_bs) =
+      ([], (0, ap (λ x. Some (commits x [] [])) (sym zero_k) ∙ ap (λ x. Some (commits k x [])) (sym no_bs)))
+  decides_commit (unifies t u) k bs body (zero_k, none, (rs, (n, e))) =
+      (rs, (n, ap (option_map (built_in [])) e ∙ ap (λ x. Some (commits x bs rs)) (sym zero_k)))
+  decides_commit (assigns t x) k bs body (zero_k, none, (z, v, (rs, (n, e)))) =
+      (rs, subst (λ j. Decides m s (assigns t x) (commits j bs rs)) (sym zero_k) (assigned t x z (done bs rs) v n e))
 
   pub decides_failure : (g : Goal Variable) → GoalFails m s g → DecidesFail m s g
   decides_failure (user p args) h = call_fails p args h
@@ -299,3 +297,17 @@ module _ (m : Program) (s : Bindings) where
   decides_failure (assigns t x) (inl (n, e)) =
       ([], (n, ap (assign_on (λ z. option_map (built_in []) (unify n s [] [] ((t, number z) ∷ [])))) e))
   decides_failure (assigns t x) (inr (z, v, (rs, (n, e)))) = (rs, assigned t x z (clash rs) v n e)
+
+-- a goal for which a wait is decided neither reduces nor fails
+module _ (m : Program) (s : Bindings) (g : Goal Variable) (w : DecidesWait m s g) where
+  pub waits_not_reduces : (k : ℕ) (bs : Bindings) (body : List (Goal ℕ)) → GoalReduces m s g k bs body → ⊥
+  waits_not_reduces k bs body h =
+      let c = decides_commit m s g k bs body h in
+      let same : waits_on w.0 ≡ commits k bs c.0 = one_decision m s g _ _ w.1 c.1 in
+      cc
+
+  pub waits_not_fails : GoalFails m s g → ⊥
+  waits_not_fails h =
+      let c = decides_failure m s g h in
+      let same : waits_on w.0 ≡ decides_fail c.0 = one_decision m s g _ _ w.1 c.1 in
+      cc

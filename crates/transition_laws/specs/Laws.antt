@@ -29,10 +29,10 @@ ANextEntryIsAllowedAndDecided = (m : Program) (s : State) (e : Entry) →
 abbrev pub AnEventIsOfItsEntry : Type 0
 AnEventIsOfItsEntry = (m : Program) (s : State) (e : Entry) (ev : Event) → IsNext m s e ev → (ev.entry ≡ e) × (ev.before ≡ s)
 
--- a commit with some bindings is decided exactly where the goal reduces with them
+-- a commit by a clause with some bindings is decided exactly where the goal reduces so
 abbrev pub ACommitIsAReduction : Type 0
-ACommitIsAReduction = (m : Program) (s : Bindings) (g : Goal Variable) (bs : Bindings) →
-    ((k : ℕ) × (rs : List Variable) × Decides m s g (commits k bs rs)) ↔ ((body : List (Goal ℕ)) × GoalReduces m s g bs body)
+ACommitIsAReduction = (m : Program) (s : Bindings) (g : Goal Variable) (k : ℕ) (bs : Bindings) →
+    ((rs : List Variable) × Decides m s g (commits k bs rs)) ↔ ((body : List (Goal ℕ)) × GoalReduces m s g k bs body)
 
 -- a fail is decided exactly where the goal fails
 abbrev pub AFailIsAFailure : Type 0
@@ -46,26 +46,38 @@ pub record IsLiveGoal (s : State) (name : Proc) (g : Goal Variable) : Type 0 whe
   pub is_live : is_finished process.status ≡ false
   pub goal : process.goal ≡ g
 
--- the goal of a process reduces
-pub record ReducesProcess (m : Program) (s : State) (name : Proc) (after : State) : Type 0 where
-  pub reduction : Reduces m (suc s.entries) (configuration s) (configuration after)
+-- the goal of a process reduces by clause k, with the bindings of the event
+pub record ReducesProcess (m : Program) (s : State) (name : Proc) (k : ℕ) (ev : Event) : Type 0 where
+  pub reduction : Reduces m (suc s.entries) (configuration s) (configuration ev.after)
   pub is_live : IsLiveGoal s name reduction.goal
+  pub clause : reduction.clause ≡ k
+  pub bindings : reduction.bindings ≡ ev.bindings
+
+-- the goal of a process neither reduces nor fails, and the configuration stays
+pub record WaitsProcess (m : Program) (s : State) (name : Proc) (ev : Event) : Type 0 where
+  pub goal : Goal Variable
+  pub is_live : IsLiveGoal s name goal
+  pub no_reduction : (k : ℕ) (bs : Bindings) (body : List (Goal ℕ)) → GoalReduces m s.bound goal k bs body → ⊥
+  pub no_failure : GoalFails m s.bound goal → ⊥
+  pub stays : configuration ev.after ≡ configuration s
 
 -- the goal of a process fails, and the configuration stays
-pub record FailsProcess (m : Program) (s : State) (name : Proc) (after : State) : Type 0 where
+pub record FailsProcess (m : Program) (s : State) (name : Proc) (ev : Event) : Type 0 where
   pub failure : Fails m (configuration s)
   pub is_live : IsLiveGoal s name failure.goal
-  pub stays : configuration after ≡ configuration s
+  pub stays : configuration ev.after ≡ configuration s
 
--- what an entry does to the configuration: a commit is a reduction, a fail is a failure, all others leave it as it is
-abbrev pub IsTransition : Program → State → Entry → State → Type 0
-IsTransition m s (Commit p k) after = ReducesProcess m s p after
-IsTransition m s (Fail p) after = FailsProcess m s p after
-IsTransition m s e after = configuration after ≡ configuration s
+-- what an entry is for the configuration: a commit reduces a goal, a hang finds that one can only wait, a fail that one
+-- fails, and a control leaves all goals and bindings as they are
+abbrev pub IsTransition : Program → State → Entry → Event → Type 0
+IsTransition m s (Commit p k) ev = ReducesProcess m s p k ev
+IsTransition m s (Hang p) ev = WaitsProcess m s p ev
+IsTransition m s (Fail p) ev = FailsProcess m s p ev
+IsTransition m s e ev = configuration ev.after ≡ configuration s
 
 -- each entry of an ordered state is a transition
 abbrev pub AnEntryIsATransition : Type 0
-AnEntryIsATransition = (m : Program) (s : State) (e : Entry) (ev : Event) → IsOrdered s → IsNext m s e ev → IsTransition m s e ev.after
+AnEntryIsATransition = (m : Program) (s : State) (e : Entry) (ev : Event) → IsOrdered s → IsNext m s e ev → IsTransition m s e ev
 
 -- the first configuration of a goal: its items, whose variables have the places of entry 0, and no bindings
 abbrev pub AStartIsTheGoal : Type 0

@@ -1,4 +1,5 @@
--- The transitions of a computation: a goal reduces, or a goal fails. They are said by the tries of clauses, over the goals alone.
+-- The transitions of a computation: a goal reduces, or a goal fails. They are defined over goals and bindings, by the tries
+-- of clauses.
 use Rattle.std.specs.Prelude.{◌≡◌, ◌≢◌, ℕ, suc, ◌⊎◌, Bool, true, false, not, List, [], ◌∷◌, ◌++◌, length, map, filter, Some, ℤ}
 use Rattle.fcp_model.specs.Places.{Variable, placed}
 use Rattle.fcp_model.specs.Terms.{Term, number, Bindings}
@@ -68,27 +69,28 @@ DoNotUnify s t u = (rs : List Variable) × UnifyEnds s t u (clash rs)
 abbrev pub Evaluates : Bindings → Expr Variable → Evaluated → Type 0
 Evaluates s e v = (n : ℕ) × (eval n s e ≡ Some v)
 
--- A call reduces by the first clause whose try succeeds: the tries of the clauses before it fail or wait. The body is that
--- clause's, and the bindings are those of its try.
-pub record CallReduces (m : Program) (s : Bindings) (p : ℕ) (args : List (Term Variable)) (bs : Bindings) (body : List (Goal ℕ)) :
+-- A call reduces by the first clause whose try succeeds, which is clause k, counted from 1: the tries of the clauses before
+-- it fail or wait. The body is that clause's, and the bindings are those of its try.
+pub record CallReduces (m : Program) (s : Bindings) (p : ℕ) (args : List (Term Variable)) (k : ℕ) (bs : Bindings) (body : List (Goal ℕ)) :
     Type 0 where
   pub earlier : List Clause
   pub clause : Clause
   pub later : List Clause
   pub clauses : clauses_of m p (length args) ≡ earlier ++ clause ∷ later
+  pub number : k ≡ suc (length earlier)
   pub failed : Bool
   pub tries : NoneSucceeds s args true earlier failed
   pub reads : List Variable
   pub success : TryEnds s args failed clause (succeeds bs reads)
   pub body_is : clause.body ≡ body
 
--- What a goal reduces to, and with which bindings. A call reduces by a clause. A built-in goal reduces to nothing: `true`
--- without bindings, `A = B` where the terms unify, `A := E` where A unifies with the number that E gives.
-abbrev pub GoalReduces : Program → Bindings → Goal Variable → Bindings → List (Goal ℕ) → Type 0
-GoalReduces m s (user p args) bs body = CallReduces m s p args bs body
-GoalReduces m s true' bs body = (bs ≡ []) × (body ≡ [])
-GoalReduces m s (unifies t u) bs body = UnifyWith s t u bs × (body ≡ [])
-GoalReduces m s (assigns t e) bs body = ((z : ℤ) × Evaluates s e (gives z) × UnifyWith s t (number z) bs) × (body ≡ [])
+-- What a goal reduces to, by which clause, and with which bindings. A built-in goal has no clause, 0, and reduces to
+-- nothing: `true` without bindings, `A = B` where the terms unify, `A := E` where A unifies with the number that E gives.
+abbrev pub GoalReduces : Program → Bindings → Goal Variable → ℕ → Bindings → List (Goal ℕ) → Type 0
+GoalReduces m s (user p args) k bs body = CallReduces m s p args k bs body
+GoalReduces m s true' k bs body = (k ≡ 0) × (body ≡ []) × (bs ≡ [])
+GoalReduces m s (unifies t u) k bs body = (k ≡ 0) × (body ≡ []) × UnifyWith s t u bs
+GoalReduces m s (assigns t e) k bs body = (k ≡ 0) × (body ≡ []) × ((z : ℤ) × Evaluates s e (gives z) × UnifyWith s t (number z) bs)
 
 -- When a goal fails. A call fails where the try of each of its clauses fails, `A = B` where the terms do not unify, and
 -- `A := E` where E is a bad expression, or where A does not unify with the number that E gives.
@@ -98,16 +100,17 @@ GoalFails m s true' = ⊥
 GoalFails m s (unifies t u) = DoNotUnify s t u
 GoalFails m s (assigns t e) = Evaluates s e bad ⊎ ((z : ℤ) × Evaluates s e (gives z) × DoNotUnify s t (number z))
 
--- Reduce, as entry n of a run: one of the goals reduces; its body takes its place in the collection, at the end, and the
--- bindings are added. There the variables of the clause are the places of entry n.
+-- Reduce, as entry n of a run: one of the goals is taken out, the body that it reduces to is put at the end, and the bindings
+-- are added. In both the variables of the clause are places of entry n.
 pub record Reduces (m : Program) (n : ℕ) (before after : Configuration) : Type 0 where
   pub front : List (Goal Variable)
   pub goal : Goal Variable
   pub back : List (Goal Variable)
   pub goals_before : before.goals ≡ front ++ goal ∷ back
+  pub clause : ℕ
   pub bindings : Bindings
   pub body : List (Goal ℕ)
-  pub reduction : GoalReduces m before.bound goal bindings body
+  pub reduction : GoalReduces m before.bound goal clause bindings body
   pub goals_after : after.goals ≡ front ++ back ++ map (rename_goal (placed n)) body
   pub bound_after : after.bound ≡ before.bound ++ settled n bindings
 

@@ -3,7 +3,8 @@
 #![tactic(auto)]
 
 ghost use Rattle.transition_laws.specs.Laws.{ANextEntryIsAllowedAndDecided, AnEventIsOfItsEntry, ACommitIsAReduction, AFailIsAFailure};
-ghost use Rattle.transition_laws.specs.Laws.{AnEntryIsATransition, AStartIsTheGoal};
+ghost use Rattle.transition_laws.specs.Laws.{AnEntryIsATransition, AStartIsTheGoal, ARunComputes, AFailIsLast, AProcessCommitsOnce};
+ghost use Rattle.transition_laws.specs.Laws.{ATerminatedRunIsDone, AFailedRunFails, ASuspendedRunIsDeadlocked};
 
 /// A run's next entry is one that it allows and that is decided.
 pub fn next_entries()
@@ -21,4 +22,18 @@ pub fn decided_goals()
 pub fn transitions()
     ensures start { AStartIsTheGoal }
     ensures entry { AnEntryIsATransition }
+{}
+
+/// A run is a computation by reductions, in which a process commits once, and a fail is last.
+pub fn computations()
+    ensures reductions { ARunComputes }
+    ensures fail { AFailIsLast }
+    ensures commit { AProcessCommitsOnce }
+{}
+
+/// What the last configuration of a run is, by its outcome.
+pub fn last_configurations()
+    ensures terminated { ATerminatedRunIsDone }
+    ensures failed { AFailedRunFails }
+    ensures suspended { ASuspendedRunIsDeadlocked }
 {}

@@ -1,6 +1,5 @@
 -- The laws, from their lemmas.
 use Rattle.transition_laws.proofs.OneEntry.{start_is, is_transition}
-use Rattle.transition_laws.proofs.OrderedEvents.{ordered_after}
 use Rattle.transition_laws.proofs.transitions.Goals as goal
 
 pub returns-clause-start : goal.returns-clause-start
