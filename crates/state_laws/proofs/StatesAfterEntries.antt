@@ -79,10 +79,10 @@ module _ (m : Program) (s : State) (h : IsLawfulState m s) where
   all_named = each_itself s.processes (apart_of_rise s.processes h.ordered.rise)
 
   same_named : (p q : Process) → IsNamed p → IsNamed q → is_same_process q.name p.name ≡ true → q ≡ p
-  same_named p q i j e =
-      let there : process_named s.processes p.name ≡ Some q = subst (λ n. process_named s.processes n ≡ Some q)
-      (same_process q.name p.name e) j in
-      cc
+  same_named p q i j e = go (subst (λ n. process_named s.processes n ≡ Some q) (same_process q.name p.name e) j)
+    where
+      go : process_named s.processes p.name ≡ Some q → q ≡ p
+      go there = cc
 
   goal_of : (p : Process) → IsNamed p → IsOver p
   goal_of p i = each_found IsOver s.processes p.name p h.goals i
@@ -125,8 +125,7 @@ module _ (m : Program) (s : State) (h : IsLawfulState m s) where
           go false e = j
 
   commit_keeps : (p : Process) (k : ℕ) (bs : Bindings) (rs : List Variable) → IsClosed m → IsNamed p
-      → Decides m s.bound p.goal (commits k bs rs)
-      → IsLawfulState m (after_commit s p.name (clause_used m p.goal k) bs)
+      → Decides m s.bound p.goal (commits k bs rs) → IsLawfulState m (after_commit s p.name (clause_used m p.goal k) bs)
   commit_keeps p k bs rs closed named d = record {
     ordered = record {
       rise =

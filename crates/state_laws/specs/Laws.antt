@@ -30,18 +30,18 @@ AStartIsLawful = (m : Program) (vars : ℕ) (gs : List (Goal ℕ)) → GoalsOver
 -- an entry of a closed program leads from a lawful state to a lawful one
 abbrev pub AnEntryKeepsStatesLawful : Type 0
 AnEntryKeepsStatesLawful = (n : ℕ) (m : Program) (s : State) (e : Entry) (ev : Event) → IsClosed m → IsLawfulState m s
-    → next n m s e ≡ Some ev
-    → IsLawfulState m ev.after
+    → next n m s e ≡ Some ev → IsLawfulState m ev.after
 
 -- every state that a run of a closed program comes to from a goal's first state is lawful
 abbrev pub EveryStateIsLawful : Type 0
 EveryStateIsLawful = (m : Program) (vars : ℕ) (gs : List (Goal ℕ)) (log : List Entry) (evs : List Event) → IsClosed m
     → GoalsOver (IsNumbered vars) gs → IsRun m (start vars gs) log evs → IsLawfulState m (last_state (start vars gs) evs)
 
--- No wake is lost: in every state to which such a run comes, each process that waits has the decision to wait on exactly
--- the places on which it waits.
+-- each process that waits has the decision to wait on exactly the places on which it waits
+abbrev pub AllWaitRightly : Program → State → Type 0
+AllWaitRightly m s = Each (λ p. (ps : List Place) → p.status ≡ waiting ps → WaitsOn m s.bound p.goal ps) s.processes
+
+-- no wake is lost: all processes that wait do so rightly in every state to which such a run comes
 abbrev pub NoWakeIsLost : Type 0
 NoWakeIsLost = (m : Program) (vars : ℕ) (gs : List (Goal ℕ)) (log : List Entry) (evs : List Event) → IsClosed m
-    → GoalsOver (IsNumbered vars) gs → IsRun m (start vars gs) log evs
-    → Each (λ p. (ps : List Place) → p.status ≡ waiting ps → WaitsOn m (last_state (start vars gs) evs).bound p.goal ps)
-    (last_state (start vars gs) evs).processes
+    → GoalsOver (IsNumbered vars) gs → IsRun m (start vars gs) log evs → AllWaitRightly m (last_state (start vars gs) evs)
