@@ -1,5 +1,5 @@
 -- The marks of a clause's head are new: each is above all of the clause's variables to its left.
-use Rattle.std.proofs.Common.{◌≡◌, ℕ, ◌<◌, ◌≤◌, max, Bool, true, false, cond, List, [], ◌∷◌, refl, sym, ap, ◌∙◌, subst, arith}
+use Rattle.std.proofs.Common.{◌≡◌, ℕ, ◌≤◌, max, Bool, true, false, cond, List, [], ◌∷◌, refl, sym, ap, ◌∙◌, subst, arith}
 use Rattle.std.specs.Prelude.{nat_lt}
 use Rattle.std.proofs.lemmas.Bool.Decides.{nat_tests}
 use Rattle.fcp_model.specs.declared.run.Place.{Place}
@@ -24,7 +24,8 @@ module _ (K : Place → Type 0) (vars : ℕ) where
     met : mets_in n (renames own m.item) ≡ m.met
     within : m.met ≤ vars
 
-  first_or_not : (n k : ℕ) → n ≤ vars → IsNumbered vars k → (c : Bool) → nat_lt n k ≡ c → IsNew n (record { item = cond c (first k) (var k); met = max n k })
+  first_or_not : (n k : ℕ) → n ≤ vars → IsNumbered vars k → (c : Bool) → nat_lt n k ≡ c
+      → IsNew n (record { item = cond c (first k) (var k); met = max n k })
   first_or_not n k h i true e = record { marked = grind (arith, nat_tests); met = refl; within = omega (arith, i.1) }
   first_or_not n k h i false e = record { marked = i.0; met = refl; within = omega (arith, i.1) }
 
@@ -63,13 +64,18 @@ module _ (K : Place → Type 0) (vars : ℕ) where
     pub within : pairs_met n ps ≤ vars
 
   -- the pairs of arguments over places, and of a closed clause's head
-  pub head_pairs_marked : (n : ℕ) (ts : List (Term Variable)) (us : List (Term ℕ)) → n ≤ vars → AllOver (IsMet K 0) ts → AllOver (IsNumbered vars) us → AreHeadPairs n (head_pairs n ts us)
+  pub head_pairs_marked : (n : ℕ) (ts : List (Term Variable)) (us : List (Term ℕ)) → n ≤ vars → AllOver (IsMet K 0) ts
+      → AllOver (IsNumbered vars) us → AreHeadPairs n (head_pairs n ts us)
   head_pairs_marked n [] us h f g = record { marked = tt; within = h }
   head_pairs_marked n (t ∷ ts) [] h f g = record { marked = tt; within = h }
   head_pairs_marked n (t ∷ ts) (u ∷ us) h f g =
       let x = mark_new n u h g.0 in
       let y = head_pairs_marked (mark n u).met ts us x.within f.1 g.1 in
       record {
-        marked = (Met-above K 0 n (omega arith) t f.0, x.marked, subst (λ i. ArePairsMarked K i (head_pairs (mark n u).met ts us)) (sym x.met) y.marked);
+        marked = (
+          Met-above K 0 n (omega arith) t f.0,
+          x.marked,
+          subst (λ i. ArePairsMarked K i (head_pairs (mark n u).met ts us)) (sym x.met) y.marked,
+        );
         within = subst (λ i. pairs_met i (head_pairs (mark n u).met ts us) ≤ vars) (sym x.met) y.within;
       }

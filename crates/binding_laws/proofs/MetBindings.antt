@@ -1,5 +1,6 @@
 -- Bindings without a cycle over variables that were met, and the values of terms there.
-use Rattle.std.proofs.Common.{◌≡◌, ℕ, zero, suc, ◌<◌, ◌≤◌, max, Bool, true, false, cond, [], ◌∷◌, ◌++◌, length, Option, Some, None, refl, sym, ap, ◌∙◌, subst, arith, inl, inr}
+use Rattle.std.proofs.Common.{◌≡◌, ℕ, zero, suc, ◌<◌, ◌≤◌, max, Bool, true, false, cond, [], ◌∷◌, ◌++◌, length}
+use Rattle.std.proofs.Common.{Option, Some, None, refl, sym, ◌∙◌, subst, arith, inl, inr}
 use Rattle.std.specs.Prelude.{nat_eq}
 use Rattle.std.proofs.lemmas.Bool.Decides.{nat_tests}
 use Rattle.fcp_model.specs.declared.run.Place.{Place}
@@ -10,7 +11,8 @@ use Rattle.fcp_model.specs.Ranks.{Mentions, MentionsOne, Ranked}
 use Rattle.fcp_model.specs.ClosedPrograms.{Over, PartsOver}
 use Rattle.fcp_model.proofs.Finding.{is_same-true, found_or, find-append}
 use Rattle.fcp_model.proofs.Acyclic.{LeadsNowhere, unreached}
-use Rattle.binding_laws.proofs.MetTerms.{IsMet, met_in, met_with, met_with_above, IsMarked, IsMet-above, Met-above, named_is_met, met_in_met, met_is_marked}
+use Rattle.binding_laws.proofs.MetTerms.{IsMet, met_in, met_with_above, IsMarked, IsMet-above}
+use Rattle.binding_laws.proofs.MetTerms.{Met-above, named_is_met, met_in_met, met_is_marked}
 
 -- each variable of the term has the property
 mutual
@@ -54,7 +56,8 @@ binds_one P p t f g v u e = go (is_same p v) refl e
 
 module _ (K : Place → Type 0) where
   pub bindings_above : (n n' : ℕ) (s : Bindings) → n ≤ n' → AreMetBindings K n s → AreMetBindings K n' s
-  bindings_above n n' s h b = record { ranked = b.ranked; over = λ v t e. (IsMet-above K n n' h v (b.over v t e).0, Met-above K n n' h t (b.over v t e).1) }
+  bindings_above n n' s h b =
+      record { ranked = b.ranked; over = λ v t e. (IsMet-above K n n' h v (b.over v t e).0, Met-above K n n' h t (b.over v t e).1) }
 
   -- a value over variables that were met
   abbrev pub IsMetLook : ℕ → Bindings → Look → Type 0
@@ -77,7 +80,8 @@ module _ (K : Place → Type 0) where
     value_of_met zero only p l i e = cc
     value_of_met (suc k) only p l i e = go (λ c q j f. value_of_met k c q l j f) (find s p) refl e
       where
-        go : ((c : Bool) (q : Variable) → IsMet K n q → value_of k s c q ≡ Some l → IsMetLook n s l) → (o : Option (Term Variable)) → find s p ≡ o → through (value_of k s) only p o ≡ Some l → IsMetLook n s l
+        go : ((c : Bool) (q : Variable) → IsMet K n q → value_of k s c q ≡ Some l → IsMetLook n s l) → (o : Option (Term Variable))
+            → find s p ≡ o → through (value_of k s) only p o ≡ Some l → IsMetLook n s l
         go rec None at f = let same : open_place only p ≡ l = cc in subst (IsMetLook n s) same (opened n s only p at i)
         go rec (Some (var q)) at f = rec only q (bound_at p (var q) at) f
         go rec (Some (ro q)) at f = rec true q (bound_at p (ro q) at) f
@@ -102,7 +106,7 @@ module _ (K : Place → Type 0) where
     value_met k (cons x y) l o e = solid_is (cons x y) l o e
     value_met k (tuple ts) l o e = solid_is (tuple ts) l o e
 
-  -- a term with new marks from m on, where m is n or more, behind which the variables 1 to n' were met
+  -- a term with new marks from some number on, n or more, after which the variables 1 to n' were met
   pub record IsMarkedSolid (n n' : ℕ) (t : Term Variable) : Type 0 where
     pub from : ℕ
     pub above : n ≤ from
@@ -120,13 +124,21 @@ module _ (K : Place → Type 0) where
   met_look n n' s (read_only p) h i = i
   met_look n n' s (solid t) h i = record { from = n'; above = h; marked = met_is_marked K n' t i; met = met_in_met K n' t i }
 
-  marked_is : (n : ℕ) (s : Bindings) (t : Term Variable) (l : Look) → IsMarked K n t → Some (solid t) ≡ Some l → IsMarkedLook n (met_in n t) s l
-  marked_is n s t l i e = let same : solid t ≡ l = cc in subst (IsMarkedLook n (met_in n t) s) same (record { from = n; above = omega arith; marked = i; met = refl })
+  marked_is : (n : ℕ) (s : Bindings) (t : Term Variable) (l : Look) → IsMarked K n t → Some (solid t) ≡ Some l
+      → IsMarkedLook n (met_in n t) s l
+  marked_is n s t l i e =
+      let same : solid t ≡ l = cc in
+      subst (IsMarkedLook n (met_in n t) s) same (record { from = n; above = omega arith; marked = i; met = refl })
 
   -- the value of a right side that is no mark
-  pub value_marked : (n : ℕ) (s : Bindings) → AreMetBindings K n s → (k : ℕ) (t : Term Variable) (l : Look) → IsMarked K n t → value k s t ≡ Some l → IsMarkedLook n (met_in n t) s l
-  value_marked n s b k (var q) l i e = met_look n _ s l (met_with_above n q) (value_of_met _ s (bindings_above n _ s (met_with_above n q) b) k false q l (named_is_met K n q i) e)
-  value_marked n s b k (ro q) l i e = met_look n _ s l (met_with_above n q) (value_of_met _ s (bindings_above n _ s (met_with_above n q) b) k true q l (named_is_met K n q i) e)
+  pub value_marked : (n : ℕ) (s : Bindings) → AreMetBindings K n s → (k : ℕ) (t : Term Variable) (l : Look) → IsMarked K n t
+      → value k s t ≡ Some l → IsMarkedLook n (met_in n t) s l
+  value_marked n s b k (var q) l i e =
+      met_look n _ s l (met_with_above n q)
+      (value_of_met _ s (bindings_above n _ s (met_with_above n q) b) k false q l (named_is_met K n q i) e)
+  value_marked n s b k (ro q) l i e =
+      met_look n _ s l (met_with_above n q)
+      (value_of_met _ s (bindings_above n _ s (met_with_above n q) b) k true q l (named_is_met K n q i) e)
   value_marked n s b k (first j) l i e =
       let above : n ≤ max n j = omega arith in
       met_look n _ s l above (value_of_met _ s (bindings_above n _ s above b) k false (own j) l (omega (arith, i), omega arith) e)
@@ -151,5 +163,10 @@ module _ (K : Place → Type 0) where
       go None e = refl
       go (Some t) e = absurd (let i = b.over (own k) t e in omega (arith, i.0.1))
 
-  pub new_nowhere : (n k : ℕ) (s : Bindings) (t : Term Variable) → AreMetBindings K n s → n < k → Over (IsMet K n) t → LeadsNowhere s (own k) t
-  new_nowhere n k s t b h o = record { each = λ q m. unreached s (own k) (λ v q' u e i. differ n k q' h (over_at (IsMet K n) q' u (b.over v u e).1 i)) (length s) q (differ n k q h (over_at (IsMet K n) q t o m)) }
+  pub new_nowhere : (n k : ℕ) (s : Bindings) (t : Term Variable) → AreMetBindings K n s → n < k → Over (IsMet K n) t
+      → LeadsNowhere s (own k) t
+  new_nowhere n k s t b h o =
+      record {
+        each = λ q m. unreached s (own k) (λ v q' u e i. differ n k q' h (over_at (IsMet K n) q' u (b.over v u e).1 i)) (length s) q
+            (differ n k q h (over_at (IsMet K n) q t o m));
+      }

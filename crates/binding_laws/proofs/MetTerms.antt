@@ -124,7 +124,8 @@ module _ (K : Place → Type 0) where
 
     pub mets_are_marked : (n : ℕ) (ts : Terms Variable) → PartsOver (IsMet K n) ts → AreMarked K n ts
     mets_are_marked n none o = tt
-    mets_are_marked n (more t ts) o = (met_is_marked n t o.0, subst (λ x. AreMarked K x ts) (sym (met_in_met n t o.0)) (mets_are_marked n ts o.1))
+    mets_are_marked n (more t ts) o =
+        (met_is_marked n t o.0, subst (λ x. AreMarked K x ts) (sym (met_in_met n t o.0)) (mets_are_marked n ts o.1))
 
   -- without its marks a term is over the variables that were met with it
   mutual
@@ -132,7 +133,8 @@ module _ (K : Place → Type 0) where
     plain_is_met n (number z) i = tt
     plain_is_met n (string s) i = tt
     plain_is_met n nil i = tt
-    plain_is_met n (cons a b) i = (Met-above (met_in n a) _ (met_in_above (met_in n a) b) (plain a) (plain_is_met n a i.0), plain_is_met (met_in n a) b i.1)
+    plain_is_met n (cons a b) i =
+        (Met-above (met_in n a) _ (met_in_above (met_in n a) b) (plain a) (plain_is_met n a i.0), plain_is_met (met_in n a) b i.1)
     plain_is_met n (tuple ts) i = plains_are_met n ts i
     plain_is_met n (var v) i = named_is_met n v i
     plain_is_met n (ro v) i = named_is_met n v i
@@ -140,4 +142,5 @@ module _ (K : Place → Type 0) where
 
     plains_are_met : (n : ℕ) (ts : Terms Variable) → AreMarked K n ts → PartsOver (IsMet K (mets_in n ts)) (plains ts)
     plains_are_met n none i = tt
-    plains_are_met n (more t ts) i = (Met-above (met_in n t) _ (mets_in_above (met_in n t) ts) (plain t) (plain_is_met n t i.0), plains_are_met (met_in n t) ts i.1)
+    plains_are_met n (more t ts) i =
+        (Met-above (met_in n t) _ (mets_in_above (met_in n t) ts) (plain t) (plain_is_met n t i.0), plains_are_met (met_in n t) ts i.1)

@@ -1,5 +1,5 @@
 -- Terms and goals over variables: over more variables, and after renaming.
-use Rattle.std.proofs.Common.{◌≡◌, ℕ, List, [], ◌∷◌, map, refl, ap, ◌∙◌}
+use Rattle.std.proofs.Common.{◌≡◌, List, [], ◌∷◌, map, refl, ap, ◌∙◌}
 use Rattle.fcp_model.specs.Places.{Variable}
 use Rattle.fcp_model.specs.Terms.{Term, number, string, nil, cons, tuple, var, ro, first, Terms, none, more, plain, plains, rename, renames}
 use Rattle.fcp_model.specs.Expressions.{Expr, leaf, op, rename_expr}

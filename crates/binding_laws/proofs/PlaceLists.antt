@@ -1,7 +1,8 @@
 -- Lists of places: which are listed, and up to which entry.
-use Rattle.std.proofs.Common.{◌≡◌, ℕ, zero, suc, ◌+◌, ◌<◌, ◌≤◌, Bool, true, false, List, [], ◌∷◌, ◌++◌, map, refl, sym, ap, ◌∙◌, subst, arith}
+use Rattle.std.proofs.Common.{◌≡◌, ℕ, zero, suc, ◌+◌, ◌<◌, ◌≤◌, Bool, true, false, List}
+use Rattle.std.proofs.Common.{[], ◌∷◌, ◌++◌, map, refl, subst, arith}
 use Rattle.std.specs.Prelude.{nat_eq, ◌&&◌, ◌||◌}
-use Rattle.std.proofs.lemmas.Bool.{and_from, eq-eqb}
+use Rattle.std.proofs.lemmas.Bool.Decides.{nat_tests}
 use Rattle.fcp_model.specs.declared.run.Place.{Place}
 use Rattle.fcp_model.specs.Places.{Variable, made, own, place, is_same_place, is_listed}
 use Rattle.fcp_model.specs.States.{count_up}
@@ -12,7 +13,8 @@ pub listed_left : (p : Place) (ps qs : List Place) → is_listed p ps ≡ true �
 listed_left p [] qs e = cc
 listed_left p (x ∷ ps) qs e = go (is_same_place x p) e (listed_left p ps qs)
   where
-    go : (c : Bool) → (c || is_listed p ps) ≡ true → (is_listed p ps ≡ true → is_listed p (ps ++ qs) ≡ true) → (c || is_listed p (ps ++ qs)) ≡ true
+    go : (c : Bool) → (c || is_listed p ps) ≡ true → (is_listed p ps ≡ true → is_listed p (ps ++ qs) ≡ true)
+        → (c || is_listed p (ps ++ qs)) ≡ true
     go true h rec = refl
     go false h rec = rec h
 
@@ -29,26 +31,21 @@ pub place_left : (ps qs : List Place) (v : Variable) → IsPlaceIn ps v → IsPl
 place_left ps qs (made p) i = listed_left p ps qs i
 place_left ps qs (own k) i = i
 
-same_place : (n j k : ℕ) → j ≡ k → is_same_place (place n j) (place n k) ≡ true
-same_place n j k e = and_from _ _ (eq-eqb n n refl) (eq-eqb j k e)
+past : (n j k : ℕ) → j ≤ k → (nat_eq n n && nat_eq j k) ≡ false → suc j ≤ k
+past n j k h e = grind (arith, nat_tests)
 
 -- the places of entry n, by their numbers from `from` on
-pub numbered_listed : (n from count k : ℕ) → from ≤ k → k < from + count → is_listed (place n k) (map (place n) (count_up from count)) ≡ true
+pub numbered_listed : (n from count k : ℕ) → from ≤ k → k < from + count
+    → is_listed (place n k) (map (place n) (count_up from count)) ≡ true
 numbered_listed n from zero k h i = absurd (omega arith)
-numbered_listed n from (suc count) k h i = go (nat_eq n n && nat_eq from k) refl (λ below. numbered_listed n (suc from) count k below (omega arith))
+numbered_listed n from (suc count) k h i =
+    go (nat_eq n n && nat_eq from k) refl (λ below. numbered_listed n (suc from) count k below (omega arith))
   where
-    go : (c : Bool) → is_same_place (place n from) (place n k) ≡ c → (suc from ≤ k → is_listed (place n k) (map (place n) (count_up (suc from) count)) ≡ true) → (c || is_listed (place n k) (map (place n) (count_up (suc from) count))) ≡ true
+    go : (c : Bool) → is_same_place (place n from) (place n k) ≡ c
+        → (suc from ≤ k → is_listed (place n k) (map (place n) (count_up (suc from) count)) ≡ true)
+        → (c || is_listed (place n k) (map (place n) (count_up (suc from) count))) ≡ true
     go true e rec = refl
-    go false e rec = rec (differ e)
-      where
-        differ : is_same_place (place n from) (place n k) ≡ false → suc from ≤ k
-        differ f = above from k h (λ s. clash (is_same_place (place n from) (place n k)) (same_place n from k s) f)
-          where
-            clash : (b : Bool) → b ≡ true → b ≡ false → ⊥
-            clash b x y = cc
-
-            above : (x y : ℕ) → x ≤ y → (x ≡ y → ⊥) → suc x ≤ y
-            above x y l wrong = omega (arith, wrong)
+    go false e rec = rec (past n from k h e)
 
 pub within_append : (n : ℕ) (ps qs : List Place) → PlacesWithin n ps → PlacesWithin n qs → PlacesWithin n (ps ++ qs)
 within_append n [] qs f g = g

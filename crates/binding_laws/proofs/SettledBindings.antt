@@ -1,18 +1,20 @@
 -- A try's bindings once a commit gives the clause's variables their places, which no place so far equals.
-use Rattle.std.proofs.Common.{◌≡◌, ℕ, suc, ◌<◌, ◌≤◌, Bool, true, false, cond, List, [], ◌∷◌, ◌++◌, Option, Some, None, refl, sym, ap, ◌∙◌, subst, arith, inl, inr}
+use Rattle.std.proofs.Common.{◌≡◌, ℕ, suc, ◌<◌, ◌≤◌, Bool, true, false, cond, [], ◌∷◌, ◌++◌}
+use Rattle.std.proofs.Common.{Option, Some, None, refl, sym, ap, ◌∙◌, subst, arith, inl, inr}
 use Rattle.std.specs.Prelude.{nat_eq, ◌&&◌, option_map}
 use Rattle.std.proofs.lemmas.Bool.Decides.{nat_tests}
 use Rattle.fcp_model.specs.declared.run.Place.{Place}
 use Rattle.fcp_model.specs.Places.{Variable, made, own, place, placed, is_same, is_same_place}
-use Rattle.fcp_model.specs.Terms.{Term, number, string, nil, cons, tuple, var, ro, first, Terms, none, more, rename, renames, settle, Bindings, find}
+use Rattle.fcp_model.specs.Terms.{Term, number, string, nil, cons, tuple, var, ro, first, Terms}
+use Rattle.fcp_model.specs.Terms.{none, more, rename, renames, settle, Bindings, find}
 use Rattle.fcp_model.specs.Ranks.{Mentions, MentionsOne, Ranked}
 use Rattle.fcp_model.specs.Events.{settled}
 use Rattle.fcp_model.specs.ClosedPrograms.{Over, PartsOver}
 use Rattle.fcp_model.proofs.Finding.{find-append, found_or}
 use Rattle.binding_laws.proofs.OverTerms.{Over-rename}
 use Rattle.binding_laws.proofs.MetTerms.{IsMet}
-use Rattle.binding_laws.proofs.MetBindings.{over_at, BindsOver, AreMetBindings}
-use Rattle.binding_laws.proofs.MetUnification.{EachBound, each_found, IsMetTry}
+use Rattle.binding_laws.proofs.MetBindings.{over_at, BindsOver}
+use Rattle.binding_laws.proofs.MetUnification.{EachBound, each_found}
 
 -- what stands in a renamed term
 pub record IsRenamed (f : Variable → Variable) (q : Variable) (t : Term Variable) : Type 0 where
@@ -58,8 +60,9 @@ later_entry a n h = grind (arith, nat_tests)
 same_entry : (n : ℕ) → nat_eq n n ≡ true
 same_entry n = grind (arith, nat_tests)
 
--- EachBound after settling
-pub each_settled : (P Q : Variable → Type 0) (n : ℕ) → ((v : Variable) → P v → Q (settle n v)) → (bs : Bindings) → EachBound P bs → EachBound Q (settled n bs)
+-- each binding of a list, after settling
+pub each_settled : (P Q : Variable → Type 0) (n : ℕ) → ((v : Variable) → P v → Q (settle n v)) → (bs : Bindings) → EachBound P bs
+    → EachBound Q (settled n bs)
 each_settled P Q n h [] e = tt
 each_settled P Q n h (b ∷ bs) e = (h b.0 e.0, Over-rename (settle n) P Q h b.1 e.1, each_settled P Q n h bs e.2)
 
@@ -90,13 +93,16 @@ module _ (K : Place → Type 0) (n : ℕ) (old : (p : Place) → K p → p.entry
   same_was met (own k) (own j) i = refl
 
   -- what is found after settling was found before
-  find-settled : (met : ℕ) (bs : Bindings) (p : Variable) → EachBound (IsMet K met) bs → find (settled (suc n) bs) p ≡ option_map (rename (settle (suc n))) (find bs (was (suc n) p))
+  find-settled : (met : ℕ) (bs : Bindings) (p : Variable) → EachBound (IsMet K met) bs
+      → find (settled (suc n) bs) p ≡ option_map (rename (settle (suc n))) (find bs (was (suc n) p))
   find-settled met [] p h = refl
   find-settled met (b ∷ bs) p h =
-      ap (λ c. cond c (Some (rename (settle (suc n)) b.1)) (find (settled (suc n) bs) p)) (same_was met b.0 p h.0) ∙ go (is_same b.0 (was (suc n) p)) (find-settled met bs p h.2)
+      ap (λ c. cond c (Some (rename (settle (suc n)) b.1)) (find (settled (suc n) bs) p)) (same_was met b.0 p h.0)
+      ∙ go (is_same b.0 (was (suc n) p)) (find-settled met bs p h.2)
     where
       go : (c : Bool) → find (settled (suc n) bs) p ≡ option_map (rename (settle (suc n))) (find bs (was (suc n) p))
-          → cond c (Some (rename (settle (suc n)) b.1)) (find (settled (suc n) bs) p) ≡ option_map (rename (settle (suc n))) (cond c (Some b.1) (find bs (was (suc n) p)))
+          → cond c (Some (rename (settle (suc n)) b.1)) (find (settled (suc n) bs) p)
+          ≡ option_map (rename (settle (suc n))) (cond c (Some b.1) (find bs (was (suc n) p)))
       go true e = refl
       go false e = e
 
@@ -106,7 +112,8 @@ module _ (K : Place → Type 0) (n : ℕ) (old : (p : Place) → K p → p.entry
     there : find bs (was (suc n) p) ≡ Some term
     settled_to : rename (settle (suc n)) term ≡ t
 
-  settled_found : (met : ℕ) (bs : Bindings) (p : Variable) (t : Term Variable) → EachBound (IsMet K met) bs → find (settled (suc n) bs) p ≡ Some t → IsSettled bs p t
+  settled_found : (met : ℕ) (bs : Bindings) (p : Variable) (t : Term Variable) → EachBound (IsMet K met) bs
+      → find (settled (suc n) bs) p ≡ Some t → IsSettled bs p t
   settled_found met bs p t h e = go (find bs (was (suc n) p)) refl (sym (find-settled met bs p h) ∙ e)
     where
       go : (o : Option (Term Variable)) → find bs (was (suc n) p) ≡ o → option_map (rename (settle (suc n))) o ≡ Some t → IsSettled bs p t
@@ -151,19 +158,24 @@ module _ (K : Place → Type 0) (n : ℕ) (old : (p : Place) → K p → p.entry
           let p_old : was (suc n) p ≡ p = was_old p f.0 in
           subst (λ x. r.rank x < rank_was p) (sym q_old) (subst (λ x. r.rank q < r.rank x) (sym p_old) (r.falls p q t all m))
 
-      new_falls : (p q : Variable) (t : Term Variable) → find s p ≡ None → find (settled (suc n) bs) p ≡ Some t → Mentions q t → rank_was q < rank_was p
+      new_falls : (p q : Variable) (t : Term Variable) → find s p ≡ None → find (settled (suc n) bs) p ≡ Some t → Mentions q t
+          → rank_was q < rank_was p
       new_falls p q t unbound e m =
           let w = settled_found met bs p t h e in
           let over : Over (IsMet K met) w.term = (each_found (IsMet K met) bs h (was (suc n) p) w.term w.there).1 in
           let x = renamed (IsMet K met) (settle (suc n)) q w.term over (subst (Mentions q) (sym w.settled_to) m) in
-          let all : find (s ++ bs) (was (suc n) p) ≡ Some w.term = find-append s bs (was (suc n) p) ∙ (ap (λ o. found_or o (find bs (was (suc n) p))) (was_unbound p unbound) ∙ w.there) in
-          let back : was (suc n) q ≡ x.from = ap (was (suc n)) x.to ∙ was_settled met x.from (over_at (IsMet K met) x.from w.term over x.named) in
+          let all : find (s ++ bs) (was (suc n) p) ≡ Some w.term =
+          find-append s bs (was (suc n) p) ∙ (ap (λ o. found_or o (find bs (was (suc n) p))) (was_unbound p unbound) ∙ w.there) in
+          let back : was (suc n) q ≡ x.from =
+          ap (was (suc n)) x.to ∙ was_settled met x.from (over_at (IsMet K met) x.from w.term over x.named) in
           subst (λ v. r.rank v < rank_was p) (sym back) (r.falls (was (suc n) p) x.from w.term all x.named)
 
       -- settled bindings have no cycle
       pub settled_ranked : Ranked (s ++ settled (suc n) bs)
-      settled_ranked = record { rank = rank_was; falls = λ p q t e m. go p q t (find s p) refl (sym (find-append s (settled (suc n) bs) p) ∙ e) m }
+      settled_ranked =
+          record { rank = rank_was; falls = λ p q t e m. go p q t (find s p) refl (sym (find-append s (settled (suc n) bs) p) ∙ e) m }
         where
-          go : (p q : Variable) (t : Term Variable) (o : Option (Term Variable)) → find s p ≡ o → found_or o (find (settled (suc n) bs) p) ≡ Some t → Mentions q t → rank_was q < rank_was p
+          go : (p q : Variable) (t : Term Variable) (o : Option (Term Variable)) → find s p ≡ o
+              → found_or o (find (settled (suc n) bs) p) ≡ Some t → Mentions q t → rank_was q < rank_was p
           go p q t None e f m = new_falls p q t e f m
           go p q t (Some u) e f m = old_falls p q t (e ∙ f) m
