@@ -1,18 +1,18 @@
 -- Expressions and tests have an answer, where bindings have no cycle.
-use Rattle.std.proofs.Common.{◌≡◌, ℕ, zero, suc, ◌+◌, ◌<◌, ◌≤◌, Bool, true, false, cond, List, [], ◌∷◌, ◌++◌, Option, Some, None, refl, arith}
+use Rattle.std.proofs.Common.{ℕ, zero, suc, ◌+◌, ◌<◌, ◌≤◌, Bool, List, [], ◌∷◌, ◌++◌, Option, Some, refl, arith}
 use Rattle.std.specs.Prelude.{ℤ, option_map}
 use Rattle.fcp_model.specs.declared.term.CompareOp.{CompareOp}
-use Rattle.fcp_model.specs.Places.{Variable, own, is_same}
+use Rattle.fcp_model.specs.Places.{Variable, own}
 use Rattle.fcp_model.specs.Terms.{Bindings}
 use Rattle.fcp_model.specs.Value.{Look, writable, read_only, solid, value, look_reads}
-use Rattle.fcp_model.specs.Pair.{Pair, Step, nothing, binds, clashes, waits, parts, part_step, alike, both_looks}
+use Rattle.fcp_model.specs.Pair.{Pair, Step, nothing, binds, clashes, waits, parts, alike, both_looks}
 use Rattle.fcp_model.specs.Expressions.{Expr, leaf, op, Evaluated, gives, bad, unready, both_values, value_of_leaf, apply, eval}
 use Rattle.fcp_model.specs.Tests.{Test, always, otherwise, kind, same, not_same, ordered, Tested, holds, fails, pauses, test_kind, test_order, same_step, same_pair, same_on, equal_on, is_equal, opposed, test, rename_test}
 use Rattle.fcp_model.specs.Trials.{test_on, tests}
 use Rattle.fcp_model.specs.Ranks.{Ranked}
-use Rattle.decision_laws.specs.DecidableStates.{Any}
-use Rattle.decision_laws.proofs.Settling.{Settles, at_once, and_then, one_step}
+use Rattle.decision_laws.proofs.Settling.{Any, Settles, at_once, and_then, one_step}
 use Rattle.decision_laws.proofs.Sizes.{size, size_positive, weight, weight-append, alike_weight}
+use Rattle.decision_laws.proofs.Pairs.{IsLighter, part_lighter, same_lighter}
 use Rattle.decision_laws.proofs.Values.{IsWithin, value_settles}
 
 both_evaluated : (f : ℤ → ℤ → Evaluated) (a b : Evaluated) → Settles Any (λ n. both_values f (Some a) (Some b))
@@ -28,27 +28,6 @@ both_ordered o (gives y) bad = at_once Any _ tt
 both_ordered o (gives y) (unready rs) = at_once Any _ tt
 both_ordered o bad b = at_once Any _ tt
 both_ordered o (unready rs) b = at_once Any _ tt
-
--- what a pair of `==` comes to makes the pairs that are left lighter
-abbrev IsLighter : Bindings → ℕ → Step → Type 0
-IsLighter s n nothing = 0 < n
-IsLighter s n (parts qs) = weight s qs < n
-IsLighter s n (binds p t) = Unit {0}
-IsLighter s n clashes = Unit {0}
-IsLighter s n waits = Unit {0}
-
-part_lighter : (s : Bindings) (n : ℕ) (o : Option (List Pair)) → 0 < n → ((ps : List Pair) → o ≡ Some ps → weight s ps < n)
-    → IsLighter s n (part_step o)
-part_lighter s n None z h = tt
-part_lighter s n (Some []) z h = z
-part_lighter s n (Some (p ∷ ps)) z h = h (p ∷ ps) refl
-
-same_lighter : (s : Bindings) (n : ℕ) (p q : Variable) → 0 < n → IsLighter s n (cond (is_same p q) nothing waits)
-same_lighter s n p q z = go (is_same p q)
-  where
-    go : (c : Bool) → IsLighter s n (cond c nothing waits)
-    go true = z
-    go false = tt
 
 same_step_lighter : (s : Bindings) (i j : ℕ) (l m : Look) → 0 < i + j → IsWithin s i l → IsWithin s j m
     → IsLighter s (i + j) (same_step l m)

@@ -1,10 +1,8 @@
-pub mod AllDecide
-pub mod Guards
-pub mod LawfulDecide
-pub mod Listing
-pub mod Marks
-pub mod Pairs
 pub mod Settling
 pub mod Sizes
-pub mod Unifications
 pub mod Values
+pub mod Pairs
+pub mod Guards
+pub mod Unifications
+pub mod NamedPlaces
+pub mod AllDecide

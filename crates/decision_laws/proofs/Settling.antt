@@ -2,6 +2,10 @@
 use Rattle.std.proofs.Common.{◌≡◌, ℕ, zero, suc, ◌+◌, ◌≤◌, Option, Some, refl, ap, ◌∙◌, arith}
 use Rattle.fcp_model.proofs.MoreSteps.{Grows, at_least}
 
+-- anything has this property
+abbrev pub Any : {A : Type 0} → A → Type 0
+Any x = Unit {0}
+
 -- from some number of steps on there is one answer, of which P holds
 pub record Settles {A : Type 0} (P : A → Type 0) (f : ℕ → Option A) : Type 0 where
   pub answer : A

@@ -103,7 +103,7 @@ weight-append s [] qs = omega arith
 weight-append s (ab ∷ ps) qs = omega (arith, weight-append s ps qs)
 
 -- one pair more
-abbrev pub with_pair : Pair → Option (List Pair) → Option (List Pair)
+abbrev with_pair : Pair → Option (List Pair) → Option (List Pair)
 with_pair ab o = elim o [ None ↦ None | Some ps ↦ Some (ab ∷ ps) ]
 
 module _ (s : Bindings) where

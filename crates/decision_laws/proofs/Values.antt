@@ -8,8 +8,7 @@ use Rattle.fcp_model.specs.Occurs.{Found, hit, miss, found, then_found, or_else,
 use Rattle.fcp_model.specs.Ranks.{Mentions, MentionsOne, Ranked}
 use Rattle.fcp_model.proofs.Rank.{IsEnough, fewer, all_enough}
 use Rattle.fcp_model.proofs.MoreSteps.{value_more, occurs_more}
-use Rattle.decision_laws.specs.DecidableStates.{Any}
-use Rattle.decision_laws.proofs.Settling.{Settles, by_growth}
+use Rattle.decision_laws.proofs.Settling.{Any, Settles, by_growth}
 use Rattle.decision_laws.proofs.Sizes.{leaf_size, size, size_bound}
 
 -- a variable that is unbound, or a term of at most that size

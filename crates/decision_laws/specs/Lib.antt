@@ -1,2 +1,2 @@
-pub mod DecidableStates
 pub mod Laws
+pub mod PlaceBindings

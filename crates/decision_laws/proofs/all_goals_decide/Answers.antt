@@ -1,6 +1,5 @@
 -- The laws, from their lemmas.
-use Rattle.decision_laws.proofs.AllDecide.{goal_decides}
-use Rattle.decision_laws.proofs.LawfulDecide.{process_decides}
+use Rattle.decision_laws.proofs.AllDecide.{goal_decides, process_decides}
 use Rattle.decision_laws.proofs.all_goals_decide.Goals as goal
 
 pub returns-clause-goals : goal.returns-clause-goals
