@@ -12,7 +12,7 @@ use Rattle.fcp_model.specs.declared.loaded.ProcedureName.{ProcedureName}
 use Rattle.fcp_model.specs.declared.source.Call.{Call}
 use Rattle.fcp_model.specs.declared.source.Call.TheVariants.{User}
 use Rattle.fcp_model.specs.declared.source.Module.{Module}
-use Rattle.fcp_model.specs.FirstForm.{is_true}
+use Rattle.fcp_model.specs.Goals.{is_true}
 use Rattle.fcp_model.specs.Goals.{number_of_call}
 use Rattle.fcp_model.specs.ProcedureNames.{procedure_names, same_procedure, is_exported}
 use Rattle.fcp_loader.specs.Faults.{is_hidden}

@@ -13,7 +13,7 @@ use Rattle.fcp_model.specs.declared.source.Export.{Export}
 use Rattle.fcp_model.specs.declared.source.Item.{Item}
 use Rattle.fcp_model.specs.declared.source.Module.{Module}
 use Rattle.fcp_model.specs.declared.source.GoalText.{GoalText}
-use Rattle.fcp_model.specs.FirstForm.{is_true}
+use Rattle.fcp_model.specs.Goals.{is_true}
 use Rattle.fcp_model.specs.Goals.{number_of_item}
 use Rattle.fcp_model.specs.ProcedureNames.{procedure_names, procedure_name, same_procedure, is_exported}
 use Rattle.fcp_loader.specs.Leaves.{leaves_in}

@@ -1,4 +1,5 @@
 pub mod Acyclic
+pub mod Doubling
 pub mod Finding
 pub mod Folds
 pub mod GoalNumbers

@@ -4,7 +4,7 @@ use Rattle.std.specs.List.{list_any, position_or_len}
 use Rattle.std.proofs.lemmas.Bool.{and_parts, and_from, eqb-true, eq-eqb, or_parts, or_from, not-true, not-false, cases_lt, and_right, ne_eqb, le-ltb}
 use Rattle.std.proofs.lemmas.List.{take_more, length-take-le, length_push, map-set, map_push, length-map, set_past, get_or-map}
 use Rattle.std.proofs.lemmas.List.Folds.{list_any-append, list_any_none}
-use Rattle.std.proofs.lemmas.List.Elements.{All-weaker}
+use Rattle.std.proofs.lemmas.List.Elements.{All-weaker, All-append, All-cons, All-nil, All-head, All-tail}
 use Rattle.std.proofs.lemmas.List.Sums.{fold-append}
 use Rattle.indexmap.specs.IndexSet.{insert_key}
 use Rattle.fcp_model.specs.declared.loaded.ProcedureName.{ProcedureName}
@@ -78,12 +78,28 @@ position-absent {X = X} p xs none = ap (λ n. cond (nat_lt n (length xs)) (Some 
         let parts = or_parts (p y) (list_any p ys) e in
         ap (λ b. cond (not b) (1 + position_or_len p ys) 0) parts.0 ∙ ap (λ n. 1 + n) (at_end ys parts.1) ∙ one-add (length ys)
 
--- no procedure has more arguments than each clause may have
-pub position-long : (cs : List Clause) (h : ProcedureName) (most : ℕ) → All (λ c. length c.args < most) cs → most ≤ h.arity → position (same_procedure h) (procedure_names cs) ≡ None
-position-long cs h most short long =
-    position-absent (same_procedure h) (procedure_names cs)
-    (any-procedure_names_after [] cs h
-    ∙ list_any_none (λ c. same_procedure h (procedure_name c)) cs (All-weaker (λ c. length c.args < most) (λ c. same_procedure h (procedure_name c) ≡ false) (λ c k. and_right (nat_eq h.name.0 c.head.0) (nat_eq h.arity (length c.args)) (ne_eqb h.arity (length c.args) (λ e. omega (arith, e, k, long)))) cs short))
+-- no procedure has more arguments than each of some procedures may have
+pub position-long : (hs : List ProcedureName) (h : ProcedureName) (most : ℕ) → All (λ g. g.arity < most) hs → most ≤ h.arity → position (same_procedure h) hs ≡ None
+position-long hs h most short long =
+    let other : (g : ProcedureName) → g.arity < most → same_procedure h g ≡ false = λ g k. and_right (nat_eq h.name.0 g.name.0) (nat_eq h.arity g.arity) (ne_eqb h.arity g.arity (λ e. omega (arith, e, k, long))) in
+    position-absent (same_procedure h) hs (list_any_none (same_procedure h) hs (All-weaker (λ g. g.arity < most) (λ g. same_procedure h g ≡ false) other hs short))
+
+module _ (P : ProcedureName → Type 0) where
+  inserted_pass : (gs : List ProcedureName) (k : ProcedureName) → All P gs → P k → All P (insert_key same_procedure gs k)
+  inserted_pass gs k each last = by (list_any (same_procedure k) gs)
+    where
+      by : (b : Bool) → All P (if b then gs else gs ++ k ∷ [])
+      by true = each
+      by false = All-append P gs (k ∷ []) each (All-cons P k [] last (All-nil P))
+
+  names_after_pass : (gs : List ProcedureName) (cs : List Clause) → All P gs → All (λ c. P (procedure_name c)) cs → All P (procedure_names_after gs cs)
+  names_after_pass gs [] each more = each
+  names_after_pass gs (c ∷ cs) each more =
+      names_after_pass (insert_key same_procedure gs (procedure_name c)) cs (inserted_pass gs (procedure_name c) each (All-head (λ c. P (procedure_name c)) c cs more)) (All-tail (λ c. P (procedure_name c)) c cs more)
+
+  -- what holds of each clause's procedure holds of the procedures
+  pub procedure_names_pass : (cs : List Clause) → All (λ c. P (procedure_name c)) cs → All P (procedure_names cs)
+  procedure_names_pass cs each = names_after_pass [] cs (All-nil P) each
 
 -- each procedure stands once
 Apart_push : (gs : List ProcedureName) (k : ProcedureName) → Apart gs → list_any (same_procedure k) gs ≡ false → Apart (gs ++ k ∷ [])

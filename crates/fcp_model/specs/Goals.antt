@@ -1,5 +1,5 @@
 -- The numbers of the procedures that a goal's items call.
-use Rattle.std.specs.Prelude.{◌≡◌, ℕ, List, length, map, Option, Some, None, ◌&&◌, nat_eq, if◌then◌else◌, position}
+use Rattle.std.specs.Prelude.{◌≡◌, ℕ, Bool, List, length, map, Option, Some, None, ◌&&◌, nat_eq, if◌then◌else◌, position}
 use Rattle.fcp_model.specs.declared.source.Call.{Call}
 use Rattle.fcp_model.specs.declared.source.Call.TheVariants.{User, Unify, Assign, Same, NotSame, Compare}
 use Rattle.fcp_model.specs.declared.source.Item.{Item}
@@ -18,11 +18,16 @@ unify_procedure = 4294967294
 abbrev pub assign_procedure : ℕ
 assign_procedure = 4294967295
 
+-- the built-in process `true`: the first reserved name, with no argument
+abbrev pub is_true : ℕ → ℕ → Bool
+is_true name arity = nat_eq name 0 && nat_eq arity 0
+
 -- the number of the procedure that a call names, or `None` where a goal may not make the call.
--- `true` with no argument, whose name is the first reserved one, goes before the module's procedures
+-- `true` with no argument goes before the module's procedures
 abbrev pub number_of_call : Module → Call → Option ℕ
 number_of_call m (User name args) =
-    if nat_eq name.0 0 && nat_eq (length args) 0 then Some true_procedure else position (same_procedure (record { name = name; arity = length args })) (procedure_names m.clauses)
+    if is_true name.0 (length args) then Some true_procedure
+    else position (same_procedure (record { name = name; arity = length args })) (procedure_names m.clauses)
 number_of_call m (Unify a b) = Some unify_procedure
 number_of_call m (Assign a e) = Some assign_procedure
 number_of_call m (Same a b) = None

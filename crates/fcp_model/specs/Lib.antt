@@ -5,12 +5,12 @@ pub mod Codes
 pub mod Decisions
 pub mod Events
 pub mod Expressions
-pub mod FirstForm
 pub mod Goals
 pub mod HeadPairs
 pub mod LawfulControls
 pub mod LawfulStates
 pub mod ProcedureNames
+pub mod LogLines
 pub mod LogText
 pub mod NameList
 pub mod Occurs

@@ -40,12 +40,20 @@ with_position [] h at (ps ∷ pss) = ps ∷ pss
 with_position (g ∷ gs) h at [] = []
 with_position (g ∷ gs) h at (ps ∷ pss) = if same_procedure h g then (ps ++ at ∷ []) ∷ pss else ps ∷ with_position gs h at pss
 
--- what the index of a module holds: its procedures, of which there are few enough to number, and the positions of their clauses
-pub record IsIndex (m : Module) (heads : List ProcedureName) (places : List (List ℕ)) : Type 0 where
-  pub all_names : heads ≡ procedure_names m.clauses
-  pub few : length heads < 2 ^ 32
-  pub all_places : places ≡ positions_in m.clauses
-  pub short : All (λ c. length c.args < 2 ^ 32) m.clauses
+-- what an index says: the procedures, and for each the positions of its clauses
+pub record Procedures : Type 0 where
+  pub names : List ProcedureName
+  pub positions : List (List ℕ)
+
+-- the index of some clauses
+abbrev pub procedures_of : List Clause → Procedures
+procedures_of cs = record { names = procedure_names cs; positions = positions_in cs }
+
+-- there are few enough to number, and a list of positions for each; no number of arguments is past 32 bits
+pub record AreNumbered (ps : Procedures) : Type 0 where
+  pub few : length ps.names < 2 ^ 32
+  pub each : length ps.positions ≡ length ps.names
+  pub short : All (λ h. h.arity < 2 ^ 32) ps.names
 
 -- an element of an `-export` names the procedure
 abbrev pub same_export : ProcedureName → Export → Bool

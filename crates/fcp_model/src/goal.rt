@@ -75,7 +75,7 @@ pub fn number_of(loaded: &Loaded, call: &Call) -> Option<u32>
     ensures { result ≡ number_of_call loaded.now call.now }
 {
     match call {
-        Call::User { name, args } if name.0 == 0 && args.len() == 0 => Some(TRUE_PROCEDURE),
+        Call::User { name, args } if name.is_true() && args.len() == 0 => Some(TRUE_PROCEDURE),
         Call::User { name, args } => loaded.find_called(*name, args.len()),
         Call::Unify(_, _) => Some(UNIFY_PROCEDURE),
         Call::Assign(_, _) => Some(ASSIGN_PROCEDURE),

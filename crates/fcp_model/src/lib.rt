@@ -4,11 +4,14 @@
 mod fault;
 mod goal;
 mod loaded;
+pub mod log_lines;
 mod memory;
 mod names;
+mod procedure_index;
 mod run;
 mod seq;
 mod source;
+pub mod spelling;
 mod term;
 mod text;
 
@@ -17,6 +20,7 @@ pub use goal::{ASSIGN_PROCEDURE, LoadedGoal, TRUE_PROCEDURE, UNIFY_PROCEDURE, nu
 pub use loaded::{Loaded, ProcedureName};
 pub use memory::NoMemory;
 pub use names::{Names, Sym};
+pub use procedure_index::ProcedureIndex;
 pub use run::{Act, Control, Entry, Limits, Outcome, Place, Proc, Run};
 pub use seq::Seq;
 pub use source::{Call, Clause, Export, GoalText, Item, Module};

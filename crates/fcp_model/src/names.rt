@@ -1,5 +1,6 @@
-ghost use Rattle.std.specs.Prelude.{◌≡◌, ◌<◌, length, slice_get, option_map, Some, IfOk, OnErr};
+ghost use Rattle.std.specs.Prelude.{◌≡◌, ◌<◌, nat_eq, length, slice_get, option_map, Some, IfOk, OnErr};
 ghost use Rattle.fcp_model.specs.NameList.{noted, number_of, reserved_names};
+ghost use Rattle.fcp_model.specs.Spelling.{name_at};
 
 use crate::NoMemory;
 use indexmap::IndexSet;
@@ -11,14 +12,23 @@ use std::marker::Model;
 #[derive(Clone, Copy, Debug, PartialEq, Eq, PartialOrd, Ord, Hash)]
 pub struct Sym(pub u32);
 
-/// Hashes each string behind a text that was hashed first. Whoever picks strings so that their hashes fall together has to know
+impl Sym {
+    /// Whether this is `true`, the first of the reserved names.
+    pub fn is_true(self) -> bool
+        ensures { result ≡ nat_eq self.0 0 }
+    {
+        self.0 == 0
+    }
+}
+
+/// Hashes each string after a text that was hashed first. Whoever picks strings so that their hashes fall together has to know
 /// that text, in which they stand themselves.
 #[derive(Clone, Copy)]
-struct BehindText {
+struct AfterText {
     begun: DefaultHasher,
 }
 
-impl BuildHasher for BehindText {
+impl BuildHasher for AfterText {
     type Hasher = DefaultHasher;
 
     ghost build_hasher = { λ s. s.begun };
@@ -32,7 +42,7 @@ impl BuildHasher for BehindText {
 /// The nine reserved names come first.
 #[derive(Drop)]
 pub struct Names {
-    texts: IndexSet<String, BehindText>,
+    texts: IndexSet<String, AfterText>,
     alloc: Global,
 }
 
@@ -63,7 +73,7 @@ impl Names {
         let mut begun = DefaultHasher::new();
         begun.write(text);
         let mut names = Names {
-            texts: IndexSet::with_hasher(alloc, BehindText { begun }),
+            texts: IndexSet::with_hasher(alloc, AfterText { begun }),
             alloc,
         };
         names.note("true")?;
@@ -116,5 +126,12 @@ impl Names {
         } else {
             None
         }
+    }
+
+    /// The text of a number, or the empty one where the list has no such number.
+    pub fn text_or_empty(&self, sym: Sym) -> &str
+        ensures { result.now ≡ name_at self.now sym.0 }
+    {
+        self.get(sym).unwrap_or("")
     }
 }

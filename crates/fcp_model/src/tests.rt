@@ -1,6 +1,8 @@
 ghost use Rattle.std.specs.Prelude.{◌≡◌, ◌<◌, ◌^◌, ◌↔◌, [], ◌∷◌, ◌++◌, length, All, IfOk, IsSome, IsTrue};
 ghost use Rattle.fcp_model.specs.Goals.{number_of_item};
 
+use crate::log_lines::{push_end_line, push_hang_line, push_outcome_line};
+use crate::spelling::{Decimal, push_place, push_process, push_string};
 use crate::*;
 use sqlite_items::Boxed;
 use std::alloc::Global;
@@ -200,6 +202,49 @@ fn texts_are_shown(rt: HostRuntime) -> Result<(), Fail> {
     assert_eq!(rt;
         format!(in rt.alloc(); "{refused}")?.as_str(),
         "out of memory"
+    );
+    Ok(())
+}
+
+#[test]
+fn names_and_numbers_are_spelled(rt: HostRuntime) -> Result<(), Fail> {
+    let mut text = Vec::new(rt.alloc());
+    push_string(&mut text, "it's")?;
+    push_string(&mut text, "aB_1")?;
+    push_string(&mut text, "")?;
+    push_process(
+        &mut text,
+        Proc {
+            entry: 0,
+            number: 12,
+        },
+    )?;
+    push_place(
+        &mut text,
+        Place {
+            entry: 34,
+            number: 5,
+        },
+    )?;
+    push_hang_line(
+        &mut text,
+        7,
+        Proc {
+            entry: 6,
+            number: 1,
+        },
+        &[Place {
+            entry: 0,
+            number: 2,
+        }],
+    )?;
+    push_end_line(&mut text, 7)?;
+    push_outcome_line(&mut text, Outcome::Held)?;
+    let wanted = b"'it''s'aB_1''#0.12_34.57 hang #6.1 _0.2\nend 7\noutcome held\n";
+    assert_eq!(rt; text.as_slice(), wanted.as_slice());
+    assert_eq!(rt;
+        Decimal::of(-9223372036854775807).as_bytes(),
+        b"-9223372036854775807".as_slice()
     );
     Ok(())
 }
