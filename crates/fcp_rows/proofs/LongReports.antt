@@ -1,17 +1,16 @@
 -- The report of a longer run, line by line.
-use Rattle.std.proofs.Common.{◌≡◌, ℕ, true, List, [], ◌∷◌, ◌++◌, length, drop, Option, Some, None, refl, ap, ◌∙◌}
+use Rattle.std.proofs.Common.{◌≡◌, ℕ, true, List, [], ◌∷◌, ◌++◌, drop, Option, Some, None, refl, ap, ◌∙◌}
 use Rattle.std.specs.Prelude.{codes, decimal, is_some, option_map}
 use Rattle.fcp_model.specs.declared.run.Outcome.{Outcome}
 use Rattle.fcp_model.specs.declared.run.Control.{Control}
-use Rattle.fcp_model.specs.declared.names.Sym.{Sym}
 use Rattle.fcp_model.specs.Programs.{Program}
 use Rattle.fcp_model.specs.States.{State}
 use Rattle.fcp_model.specs.Events.{Event}
 use Rattle.fcp_model.specs.Runs.{last_state}
 use Rattle.fcp_model.specs.OneWorker.{Schedule}
 use Rattle.fcp_model.specs.Spelling.{Bytes}
-use Rattle.fcp_model.specs.LogText.{both_texts, event_line, event_lines, log_text}
-use Rattle.fcp_model.specs.ReportText.{outcome_word, variable_lines, not_reached_lines, snapshot_texts, report_text}
+use Rattle.fcp_model.specs.LogText.{both_texts, event_line, event_lines, log_head, log_text}
+use Rattle.fcp_model.specs.ReportText.{NamedTerm, outcome_word, variable_lines, not_reached_lines, snapshot_texts, report_text}
 use Rattle.fcp_rows.specs.Examples.{lines}
 
 -- what some rulings came to
@@ -43,11 +42,20 @@ event_lines_are n names (ev ∷ evs) (l ∷ ls) h = both _ _ (l ++ codes "\n") (
 event_lines_are n names [] (l ∷ ls) h = absurd h
 event_lines_are n names (ev ∷ evs) [] h = absurd h
 
-pub log_is : (n : ℕ) (names : List Bytes) (evs : List Event) (x : Bytes) → event_lines n names evs ≡ Some x → log_text n names evs ≡ Some (codes "logix log 1\n" ++ x ++ codes "end " ++ decimal (length evs) ++ codes "\n")
-log_is n names evs x e = ap (λ o. option_map (λ y. codes "logix log 1\n" ++ y ++ codes "end " ++ decimal (length evs) ++ codes "\n") o) e
+pub log_is : (n : ℕ) (names : List Bytes) (last : ℕ) (evs : List Event) (x : Bytes) → event_lines n names evs ≡ Some x
+    → log_text n names log_head last evs ≡ Some (log_head ++ x ++ codes "end " ++ decimal last ++ codes "\n")
+log_is n names last evs x e = ap (λ o. option_map (λ y. log_head ++ y ++ codes "end " ++ decimal last ++ codes "\n") o) e
 
-pub report_is : (n : ℕ) (names : List Bytes) (variables : List (Option Sym)) (m : Program) (s : State) (evs : List Event) (o : Outcome) (controls : List Control) (reached : ℕ) (log vars snapshots : Bytes) →
-    log_text n names evs ≡ Some log → variable_lines n names (last_state s evs).bound 1 variables ≡ Some vars → snapshot_texts n names variables m evs ≡ Some snapshots →
-    report_text n names variables m s evs o controls reached ≡ Some (log ++ ((codes "outcome " ++ outcome_word o ++ codes "\n") ++ (vars ++ (not_reached_lines (drop reached controls) ++ snapshots))))
-report_is n names variables m s evs o controls reached log vars snapshots e f g =
-    both _ _ log _ e (both _ _ (codes "outcome " ++ outcome_word o ++ codes "\n") _ refl (both _ _ vars _ f (both _ _ (not_reached_lines (drop reached controls)) snapshots refl g)))
+-- the parts of a report, and the whole
+pub record HasTexts (n : ℕ) (names : List Bytes) (variables : List NamedTerm) (m : Program) (s : State) (evs : List Event) (log vars snapshots : Bytes) : Type 0 where
+  pub log_is : log_text n names log_head (last_state s evs).entries evs ≡ Some log
+  pub vars_are : variable_lines n names (last_state s evs).bound variables ≡ Some vars
+  pub snapshots_are : snapshot_texts n names variables m evs ≡ Some snapshots
+
+pub report_is : (n : ℕ) (names : List Bytes) (variables : List NamedTerm) (m : Program) (s : State) (evs : List Event) (o : Outcome) (controls : List Control) (reached : ℕ)
+    (log vars snapshots : Bytes) → HasTexts n names variables m s evs log vars snapshots
+    → report_text n names variables m s evs o controls reached ≡ Some (log ++ ((codes "outcome " ++ outcome_word o ++ codes "\n") ++ (vars ++ (not_reached_lines (drop reached controls) ++ snapshots))))
+report_is n names variables m s evs o controls reached log vars snapshots h =
+    both _ _ log _ h.log_is
+    (both _ _ (codes "outcome " ++ outcome_word o ++ codes "\n") _ refl
+    (both _ _ vars _ h.vars_are (both _ _ (not_reached_lines (drop reached controls)) snapshots refl h.snapshots_are)))

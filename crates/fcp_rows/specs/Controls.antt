@@ -1,15 +1,15 @@
 -- Controls: what is made when its time comes, and what is not reached.
 use Rattle.std.specs.Prelude.{ℕ, [], ◌∷◌, codes}
-use Rattle.fcp_model.specs.declared.run.Outcome.TheVariants.{Held, Terminated, Aborted, Budget}
+use Rattle.fcp_model.specs.declared.run.Outcome.TheVariants.{Held, Terminated, Aborted, Budget, Failed}
 use Rattle.fcp_model.specs.declared.run.Act.{Act}
 use Rattle.fcp_model.specs.declared.run.Act.TheVariants.{Snapshot, Suspend, Resume, Abort}
 use Rattle.fcp_model.specs.declared.run.Control.{Control}
 use Rattle.fcp_model.specs.Terms.{var}
 use Rattle.fcp_model.specs.Programs.{user}
-use Rattle.fcp_rows.specs.Examples.{a, p, X, L, fact, procedure, wide, Prints}
+use Rattle.fcp_rows.specs.Examples.{a, b, p, X, L, fact, procedure, wide, Prints}
 use Rattle.fcp_rows.specs.Limits.{looping, endless_list}
 
--- a control that is due behind so many moves
+-- a control that is due after so many moves
 abbrev pub after : ℕ → Act → Control
 after moves act = record { after = moves; act = act }
 
@@ -63,4 +63,20 @@ a_resumed_run_goes_on = Prints (record (looping (record wide { commits = 3 })) {
     ∷ codes "5 commit #2.1 1"
     ∷ codes "end 5"
     ∷ codes "outcome budget"
+    ∷ [])
+
+-- `p(a).` with the goal `p(b)` and the control `after 1 snapshot`: the run ends with the fail
+abbrev pub a_fail_comes_before_a_due_control : Type 0
+a_fail_comes_before_a_due_control = Prints (record {
+  program = procedure p 1 (fact 0 (a ∷ []) ∷ []) ∷ [];
+  variables = [];
+  goal = user 0 (b ∷ []) ∷ [];
+  limits = wide;
+  controls = after 1 Snapshot ∷ [];
+}) Failed (
+    codes "logix log 1"
+    ∷ codes "1 fail #0.1"
+    ∷ codes "end 1"
+    ∷ codes "outcome failed"
+    ∷ codes "not reached after 1 snapshot"
     ∷ [])

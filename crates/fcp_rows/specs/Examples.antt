@@ -15,6 +15,7 @@ use Rattle.fcp_model.specs.Events.{Event}
 use Rattle.fcp_model.specs.Runs.{entries_of}
 use Rattle.fcp_model.specs.OneWorker.{Schedule, IsOneWorkerRun}
 use Rattle.fcp_model.specs.Outcomes.{Ends}
+use Rattle.fcp_model.specs.ReportText.{goal_variables}
 use Rattle.fcp_model.specs.Reports.{IsOneWorkerReport}
 use Rattle.fcp_model.specs.Spelling.{Bytes}
 
@@ -28,7 +29,9 @@ pub record Example : Type 0 where
 
 -- the strings of all examples, by number
 abbrev pub names : List Bytes
-names = codes "a" ∷ codes "b" ∷ codes "c" ∷ codes "f" ∷ codes "p" ∷ codes "q" ∷ codes "r" ∷ codes "X" ∷ codes "Y" ∷ codes "Z" ∷ codes "R" ∷ codes "L" ∷ codes "S" ∷ []
+names =
+    codes "a" ∷ codes "b" ∷ codes "c" ∷ codes "f" ∷ codes "p" ∷ codes "q" ∷ codes "r"
+    ∷ codes "X" ∷ codes "Y" ∷ codes "Z" ∷ codes "R" ∷ codes "L" ∷ codes "S" ∷ codes "it's so" ∷ []
 
 -- the string `a`
 abbrev pub a : Term ℕ
@@ -41,6 +44,10 @@ b = string 1
 -- the string `c`
 abbrev pub c : Term ℕ
 c = string 2
+
+-- the string `it's so`
+abbrev pub it's_so : Term ℕ
+it's_so = string 13
 
 -- `f(T)`
 abbrev pub f : Term ℕ → Term ℕ
@@ -113,7 +120,8 @@ lines (l ∷ ls) = l ++ codes "\n" ++ lines ls
 
 -- the report of the example's run by one worker has these lines, and the run has this outcome
 abbrev pub Prints : Example → Outcome → List Bytes → Type 0
-Prints e o ls = IsOneWorkerReport e.program (start (length e.variables) e.goal) e.limits e.controls names e.variables o (lines ls)
+Prints e o ls =
+    IsOneWorkerReport e.program (start (length e.variables) e.goal) e.limits e.controls names (goal_variables e.variables) o (lines ls)
 
 -- the run of the example by one worker has these entries, it has this outcome, and the goal's first variable comes to this value
 pub record Logs (e : Example) (o : Outcome) (entries : List Entry) (look : Look) : Type 0 where

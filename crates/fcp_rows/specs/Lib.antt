@@ -4,5 +4,7 @@ pub mod Examples
 pub mod Growing
 pub mod Guards
 pub mod Limits
+pub mod Snapshots
 pub mod Suspensions
 pub mod Unifications
+pub mod Values

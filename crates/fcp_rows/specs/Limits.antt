@@ -2,10 +2,10 @@
 use Rattle.std.specs.Prelude.{List, [], ◌∷◌, codes}
 use Rattle.fcp_model.specs.declared.run.Limits.{Limits}
 use Rattle.fcp_model.specs.declared.run.Outcome.TheVariants.{Budget, Full}
-use Rattle.fcp_model.specs.Terms.{cons, var}
+use Rattle.fcp_model.specs.Terms.{cons, var, ro}
 use Rattle.fcp_model.specs.Programs.{user, unifies, Program}
 use Rattle.fcp_model.specs.Spelling.{Bytes}
-use Rattle.fcp_rows.specs.Examples.{Example, a, p, L, rule, procedure, wide, Prints}
+use Rattle.fcp_rows.specs.Examples.{Example, a, p, q, X, L, fact, rule, procedure, wide, Prints}
 
 -- `p :- p.` with the goal `p`, and limits
 abbrev pub looping : Limits → Example
@@ -70,3 +70,41 @@ hundred_cells_report =
 -- a commit of p has 18 cells and one of `=` has 1, so that after five of each, with 95 cells, the next one has too many
 abbrev pub a_run_ends_at_its_cells : Type 0
 a_run_ends_at_its_cells = Prints hundred_cells Full hundred_cells_report
+
+-- `p :- q, q, q.` and `q :- q.` with the goal `p, q` and 10 cells
+abbrev pub a_large_and_a_small_one : Example
+a_large_and_a_small_one = record {
+  program =
+      procedure p 0 (rule 0 [] [] (user 1 [] ∷ user 1 [] ∷ user 1 [] ∷ []) ∷ [])
+      ∷ procedure q 0 (rule 0 [] [] (user 1 [] ∷ []) ∷ [])
+      ∷ [];
+  variables = [];
+  goal = user 0 [] ∷ user 1 [] ∷ [];
+  limits = record wide { cells = 10 };
+  controls = [];
+}
+
+-- a commit of p has 12 cells and goes to the back; one of q has 4 and fits twice, until 2 are left
+abbrev pub a_smaller_entry_still_fits : Type 0
+a_smaller_entry_still_fits = Prints a_large_and_a_small_one Full (
+    codes "logix log 1"
+    ∷ codes "1 commit #0.2 1"
+    ∷ codes "2 commit #1.1 1"
+    ∷ codes "end 2"
+    ∷ codes "outcome full"
+    ∷ [])
+
+-- `p(a).` with the goal `p(X?)` and 2 cells: the hang on one place has 3
+abbrev pub a_hang_lacks_its_cells : Type 0
+a_hang_lacks_its_cells = Prints (record {
+  program = procedure p 1 (fact 0 (a ∷ []) ∷ []) ∷ [];
+  variables = X ∷ [];
+  goal = user 0 (ro 1 ∷ []) ∷ [];
+  limits = record wide { cells = 2 };
+  controls = [];
+}) Full (
+    codes "logix log 1"
+    ∷ codes "end 0"
+    ∷ codes "outcome full"
+    ∷ codes "X = _0.1"
+    ∷ [])

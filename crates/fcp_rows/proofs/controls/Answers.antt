@@ -42,3 +42,13 @@ returns-clause-resume c = record {
   steps = 12;
   text = simp digits refl;
 }
+
+pub returns-clause-fail : goal.returns-clause-fail
+returns-clause-fail c = record {
+  events = _;
+  last = _;
+  run = record { leads = record { count = 9; steps = 12; followed = refl }; steps = 12; ended = refl };
+  outcome = refl;
+  steps = 12;
+  text = simp digits refl;
+}
