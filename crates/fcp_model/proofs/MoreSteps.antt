@@ -90,7 +90,7 @@ module _ (s : Bindings) where
   bind_more p t (Some (hit rs)) o' h = λ x e. rw (h _ refl) e
   bind_more p t (Some (miss rs)) o' h = λ x e. rw (h _ refl) e
 
-  table_more : (l m : Look) → Grows (λ n. table n s l m)
+  pub table_more : (l m : Look) → Grows (λ n. table n s l m)
   table_more (solid t) (solid u) n = λ x e. e
   table_more (solid t) (writable q) n = bind_more q t _ _ (occurs_more q t n)
   table_more (solid t) (read_only q) n = λ x e. e
@@ -120,7 +120,7 @@ step_more f g h bs rs ps (parts qs) = h bs rs _
 step_more f g h bs rs ps clashes = λ x e. e
 step_more f g h bs rs ps waits = λ x e. e
 
-go_more : (f g : Next) → ((bs : Bindings) (rs : List Variable) (ps : List Pair) → Refines (f bs rs ps) (g bs rs ps)) → (bs : Bindings) (rs : List Variable) (ps : List Pair) (o o' : Option Treated) → Refines o o' → Refines (go_on f bs rs ps o) (go_on g bs rs ps o')
+pub go_more : (f g : Next) → ((bs : Bindings) (rs : List Variable) (ps : List Pair) → Refines (f bs rs ps) (g bs rs ps)) → (bs : Bindings) (rs : List Variable) (ps : List Pair) (o o' : Option Treated) → Refines o o' → Refines (go_on f bs rs ps o) (go_on g bs rs ps o')
 go_more f g h bs rs ps None o' i = λ x e. cc
 go_more f g h bs rs ps (Some t) o' i = λ x e. rw (i t refl) (step_more f g h bs _ ps t.step x e)
 

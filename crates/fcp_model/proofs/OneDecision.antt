@@ -61,7 +61,7 @@ is_equal_more s zero rs ps = λ x e. cc
 is_equal_more s (suc n) rs [] = λ x e. e
 is_equal_more s (suc n) rs (ab ∷ ps) = equal_on_more (is_equal n s) (is_equal (suc n) s) (λ rs' ps'. is_equal_more s n rs' ps') rs ps _ _ (looks_more _ _ _ _ (value_more s ab.0 n) (value_more s ab.1 n))
 
-test_more : (s : Bindings) (behind : Bool) (t : Test Variable) → Grows (λ n. test n s behind t)
+pub test_more : (s : Bindings) (behind : Bool) (t : Test Variable) → Grows (λ n. test n s behind t)
 test_more s behind always n = λ x e. e
 test_more s behind otherwise n = λ x e. e
 test_more s behind (kind k t) n = option_map_more (test_kind k) _ _ (value_more s t n)
@@ -75,11 +75,11 @@ test_on_more f g h rs (Some (holds qs)) o' k = λ x e. rw (k _ refl) (h _ x e)
 test_on_more f g h rs (Some (fails qs)) o' k = λ x e. rw (k _ refl) e
 test_on_more f g h rs (Some (pauses qs)) o' k = λ x e. rw (k _ refl) e
 
-tests_more : (s bs : Bindings) (behind : Bool) (n : ℕ) (rs : List Variable) (ts : List (Test ℕ)) → Refines (tests n s bs behind rs ts) (tests (suc n) s bs behind rs ts)
+pub tests_more : (s bs : Bindings) (behind : Bool) (n : ℕ) (rs : List Variable) (ts : List (Test ℕ)) → Refines (tests n s bs behind rs ts) (tests (suc n) s bs behind rs ts)
 tests_more s bs behind n rs [] = λ x e. e
 tests_more s bs behind n rs (t ∷ ts) = test_on_more _ _ (λ qs. tests_more s bs behind n qs ts) rs _ _ (test_more (s ++ bs) behind (rename_test own t) n)
 
-guard_on_more : (f g : Bindings → List Variable → Option Tried) → ((bs : Bindings) (rs : List Variable) → Refines (f bs rs) (g bs rs)) → (o o' : Option Ended) → Refines o o' → Refines (guard_on f o) (guard_on g o')
+pub guard_on_more : (f g : Bindings → List Variable → Option Tried) → ((bs : Bindings) (rs : List Variable) → Refines (f bs rs) (g bs rs)) → (o o' : Option Ended) → Refines o o' → Refines (guard_on f o) (guard_on g o')
 guard_on_more f g h None o' k = λ x e. cc
 guard_on_more f g h (Some (done bs rs)) o' k = λ x e. rw (k _ refl) (h bs rs x e)
 guard_on_more f g h (Some (clash rs)) o' k = λ x e. rw (k _ refl) e

@@ -3,6 +3,7 @@
 
 mod cell;
 mod heap;
+mod steps;
 #[cfg(test)]
 mod tests;
 mod trail;
@@ -10,5 +11,6 @@ mod words;
 
 pub use cell::{Cell, Stand, decode, encode, is_final};
 pub use heap::PlainHeap;
+pub use steps::{ExprStep, TestKind};
 pub use trail::Trail;
 pub use words::Words;
