@@ -8,7 +8,8 @@ use Rattle.fcp_model.specs.declared.term.Term.{Term}
 use Rattle.fcp_model.specs.declared.source.Call.{Call}
 use Rattle.fcp_model.specs.declared.source.Call.TheVariants.{User}
 use Rattle.fcp_model.specs.declared.source.Module.{Module}
-use Rattle.fcp_model.specs.FirstForm.{is_true, is_called}
+use Rattle.fcp_model.specs.Goals.{is_true}
+use Rattle.plain_engine.specs.CalledItems.{is_called}
 use Rattle.fcp_model.specs.Goals.{number_of_call}
 use Rattle.fcp_model.specs.ProcedureNames.{procedure_names, same_procedure}
 use Rattle.fcp_model.specs.Goals.{true_procedure}

@@ -11,7 +11,7 @@ use Rattle.fcp_model.specs.declared.source.Item.{Item}
 use Rattle.fcp_model.specs.declared.source.Clause.{Clause}
 use Rattle.fcp_model.specs.declared.source.Module.{Module}
 use Rattle.fcp_model.specs.declared.source.GoalText.{GoalText}
-use Rattle.fcp_model.specs.FirstForm.{flat_step, is_flat, are_flat, is_plain_call, are_plain_items, is_empty, is_plain_clause, is_plain_module, is_plain_goal}
+use Rattle.plain_engine.specs.PlainForms.{flat_step, is_flat, are_flat, is_plain_call, are_plain_items, is_empty, is_plain_clause, is_plain_module, is_plain_goal}
 use Rattle.fcp_model.proofs.Folds.{fold-Int, fold-Str, fold-Nil, fold-Cons, fold-Tuple, fold-Var, fold-Ro, Each, term_induction}
 use Rattle.fcp_reader.specs.Limits.{term_step, is_term_within, are_args_within, is_call_within, are_items_within, is_clause_within, is_module_within, is_goal_within}
 use Rattle.logix_app.specs.FirstForms.{simple_step, is_simple, is_simple_call, are_simple_items, is_simple_clause, is_simple_module, is_simple_goal}

@@ -9,7 +9,7 @@ use Rattle.fcp_model.specs.declared.source.Item.{Item}
 use Rattle.fcp_model.specs.declared.source.Clause.{Clause}
 use Rattle.fcp_model.specs.declared.source.Module.{Module}
 use Rattle.fcp_model.specs.declared.source.GoalText.{GoalText}
-use Rattle.fcp_model.specs.FirstForm.{is_empty}
+use Rattle.plain_engine.specs.PlainForms.{is_empty}
 
 -- one level of a term: a string or an occurrence of a variable, and neither a number nor a term with parts nor `[]`
 abbrev pub simple_step : Term-F Bool → Bool

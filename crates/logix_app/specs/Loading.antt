@@ -3,7 +3,7 @@ use Rattle.std.specs.Prelude.{◌≡◌, Bool, ◌&&◌, List, [], Some}
 use Rattle.fcp_model.specs.declared.fault.Fault.{Fault}
 use Rattle.fcp_model.specs.declared.source.Module.{Module}
 use Rattle.fcp_model.specs.declared.source.GoalText.{GoalText}
-use Rattle.fcp_model.specs.FirstForm.{bodies_called, goal_called}
+use Rattle.plain_engine.specs.CalledItems.{bodies_called, goal_called}
 use Rattle.fcp_model.specs.NameList.{reserved_names}
 use Rattle.fcp_model.specs.Spelling.{Bytes}
 use Rattle.fcp_loader.specs.Faults.{faults_of, goal_faults_of}

@@ -1,6 +1,6 @@
 //! Whether items call procedures that have a clause.
 ghost use Rattle.std.specs.Prelude.{◌≡◌};
-ghost use Rattle.fcp_model.specs.FirstForm as spec;
+ghost use Rattle.plain_engine.specs.CalledItems as spec;
 ghost use Rattle.fcp_model.specs.ProcedureNames.{procedure_names};
 
 use fcp_model::{Call, Item, Loaded, number_of};
@@ -10,7 +10,7 @@ fn is_called(loaded: &Loaded, call: &Call) -> bool
     ensures { result ≡ spec.is_called (procedure_names loaded.now.clauses) call.now }
 {
     match call {
-        Call::User { name, args } if name.0 == 0 && args.len() == 0 => false,
+        Call::User { name, args } if name.is_true() && args.len() == 0 => false,
         Call::User { name: _, args: _ } => number_of(loaded, call).is_some(),
         _ => false,
     }

@@ -1,7 +1,7 @@
 //! Whether a module and a goal are in the first form: of strings and variables alone, without guards.
 ghost use Rattle.std.specs.Prelude.{◌≡◌};
 ghost use Rattle.std.specs.List.{list_all};
-ghost use Rattle.fcp_model.specs.FirstForm as plain;
+ghost use Rattle.plain_engine.specs.PlainForms as plain;
 ghost use Rattle.logix_app.specs.FirstForms as spec;
 
 use fcp_model::{Call, Clause, GoalText, Item, Loaded, Term};

@@ -1,11 +1,11 @@
 //! The lines of faults.
-ghost use Rattle.std.specs.Prelude.{◌≡◌, ◌++◌, decimal, OnOk, IfOk};
+ghost use Rattle.std.specs.Prelude.{◌≡◌, IfOk};
 ghost use Rattle.logix_app.specs.Headline.{fault_line};
 ghost use Rattle.logix_app.specs.Parts.{TellsModule, TellsGoal};
 
 use crate::answer::Answer;
+use fcp_model::spelling::{push_bytes, push_decimal};
 use fcp_model::{Fault, NoMemory, Refused};
-use itoa::Buffer;
 use std::alloc::Global;
 
 /// The answer where a module was refused.
@@ -42,27 +42,9 @@ fn fault_line(alloc: Global, what: &[u8], fault: Fault) -> Result<Vec<u8>, NoMem
     push_bytes(&mut line, b"logix: ")?;
     push_bytes(&mut line, what)?;
     push_bytes(&mut line, b" fault ")?;
-    push_number(&mut line, fault.code.number())?;
+    push_decimal(&mut line, fault.code.number())?;
     push_bytes(&mut line, b" at ")?;
-    push_number(&mut line, fault.at)?;
+    push_decimal(&mut line, fault.at)?;
     push_bytes(&mut line, b"\n")?;
     Ok(line)
-}
-
-/// Puts bytes behind a line.
-fn push_bytes(line: &mut Vec<u8>, bytes: &[u8]) -> Result<(), NoMemory>
-    ensures { OnOk result (line.new.items ≡ line.old.items ++ bytes.now) }
-{
-    match line.extend_from_slice(bytes) {
-        Ok(()) => Ok(()),
-        Err(_) => Err(NoMemory),
-    }
-}
-
-/// Puts a number in decimal behind a line.
-fn push_number(line: &mut Vec<u8>, number: u32) -> Result<(), NoMemory>
-    ensures { OnOk result (line.new.items ≡ line.old.items ++ decimal number) }
-{
-    let mut buffer = Buffer::new();
-    push_bytes(line, buffer.format(number).as_bytes())
 }

@@ -8,7 +8,7 @@ use Rattle.fcp_model.specs.Places.{Variable, made, own}
 use Rattle.fcp_model.specs.Terms.{Term, Bindings, rename, settle}
 use Rattle.fcp_model.specs.Spelling.{Bytes, place_text, process_text}
 use Rattle.fcp_model.specs.TermText.{cut_text}
-use Rattle.fcp_model.specs.LogText.{both_texts, bindings_text, woken_text}
+use Rattle.fcp_model.specs.LogText.{both_texts, bound_places_text, woken_text}
 use Rattle.plain_engine.specs.declared.word.Binding.{Binding}
 use Rattle.plain_engine.specs.declared.word.Variable.TheVariants.{Made}
 use Rattle.plain_engine.specs.Words.{variable_of, term_of_word, binds_of}
@@ -55,27 +55,27 @@ nil-both None = refl
 nil-both (Some a) = refl
 
 module _ (names : List Bytes) (s : Bindings) (entry : ℕ) where
-  bindings_text-append : (n : ℕ) (xs ys : Bindings) → bindings_text n names s entry (xs ++ ys) ≡ both_texts (bindings_text n names s entry xs) (bindings_text n names s entry ys)
-  bindings_text-append n [] ys = sym (nil-both _)
-  bindings_text-append n (x ∷ xs) ys = go x.0 x.1 (bindings_text-append n xs ys)
+  bound_places_text-append : (n : ℕ) (xs ys : Bindings) → bound_places_text n names s entry (xs ++ ys) ≡ both_texts (bound_places_text n names s entry xs) (bound_places_text n names s entry ys)
+  bound_places_text-append n [] ys = sym (nil-both _)
+  bound_places_text-append n (x ∷ xs) ys = go x.0 x.1 (bound_places_text-append n xs ys)
     where
-      go : (v : Variable) (t : Term Variable) → bindings_text n names s entry (xs ++ ys) ≡ both_texts (bindings_text n names s entry xs) (bindings_text n names s entry ys)
-          → bindings_text n names s entry ((v, t) ∷ xs ++ ys) ≡ both_texts (bindings_text n names s entry ((v, t) ∷ xs)) (bindings_text n names s entry ys)
+      go : (v : Variable) (t : Term Variable) → bound_places_text n names s entry (xs ++ ys) ≡ both_texts (bound_places_text n names s entry xs) (bound_places_text n names s entry ys)
+          → bound_places_text n names s entry ((v, t) ∷ xs ++ ys) ≡ both_texts (bound_places_text n names s entry ((v, t) ∷ xs)) (bound_places_text n names s entry ys)
       go (made p) t rec = ap (both_texts (option_map (λ x. codes " " ++ place_text p ++ codes "=" ++ x) (cut_text n names s 64 (rename (settle entry) t)))) rec ∙ sym (both-assoc _ _ _)
       go (own k) t rec = rec
 
   -- the text of one binding more
   pub bindings_added : (bs : List Binding) (i : ℕ) (b d : Binding) (one two three : Bytes) → i < length bs → b ≡ get_or bs i d
-      → Adds one two (λ n. bindings_text n names s entry (binds_of (take i bs))) → Adds two three (λ n. bindings_text n names s entry (binds_of (b ∷ [])))
-      → Adds one three (λ n. bindings_text n names s entry (binds_of (take (i + 1) bs)))
+      → Adds one two (λ n. bound_places_text n names s entry (binds_of (take i bs))) → Adds two three (λ n. bound_places_text n names s entry (binds_of (b ∷ [])))
+      → Adds one three (λ n. bound_places_text n names s entry (binds_of (take (i + 1) bs)))
   bindings_added bs i b d one two three h at f g =
       let more : binds_of (take (i + 1) bs) ≡ binds_of (take i bs) ++ binds_of (b ∷ []) = ap binds_of (take_more bs i d h ∙ ap (λ x. take i bs ++ x ∷ []) (sym at)) ∙ map-append _ (take i bs) (b ∷ []) in
-      adds_both _ _ _ one two three f g (λ n. sym (ap (bindings_text n names s entry) more ∙ bindings_text-append n (binds_of (take i bs)) (binds_of (b ∷ []))))
+      adds_both _ _ _ one two three f g (λ n. sym (ap (bound_places_text n names s entry) more ∙ bound_places_text-append n (binds_of (take i bs)) (binds_of (b ∷ []))))
 
   -- the text of one binding of a place
   pub binding_added : {T E : Type 0} (b : Binding) (p : Place) (t : Term Variable) (r : Result T E) (old one two three new : Bytes) → b.variable ≡ Made p → t ≡ rename (settle entry) (term_of_word b.word)
       → one ≡ old ++ codes " " → two ≡ one ++ place_text p → three ≡ two ++ codes "="
-      → ((nodes : ℕ) → OnOk r (Adds three new (λ n. cut_text n names s (suc nodes) t))) → OnOk r (Adds old new (λ n. bindings_text n names s entry (binds_of (b ∷ []))))
+      → ((nodes : ℕ) → OnOk r (Adds three new (λ n. cut_text n names s (suc nodes) t))) → OnOk r (Adds old new (λ n. bound_places_text n names s entry (binds_of (b ∷ []))))
   binding_added b p t (Err x) old one two three new is term e f g added = tt
   binding_added b p t (Ok x) old one two three new is term e f g added =
       let value = added 63 in
@@ -83,16 +83,16 @@ module _ (names : List Bytes) (s : Bindings) (entry : ℕ) where
       record {
         added = codes " " ++ place_text p ++ codes "=" ++ value.added;
         behind = value.behind ∙ (ap (λ l. l ++ value.added) before ∙ append_assoc old (codes " " ++ place_text p ++ codes "=") value.added);
-        given = gives_same _ (λ n. bindings_text n names s entry (binds_of (b ∷ []))) _ (λ n. sym (shape n)) (gives_map (λ n. cut_text n names s 64 t) (λ x. codes " " ++ place_text p ++ codes "=" ++ x) value.added value.given);
+        given = gives_same _ (λ n. bound_places_text n names s entry (binds_of (b ∷ []))) _ (λ n. sym (shape n)) (gives_map (λ n. cut_text n names s 64 t) (λ x. codes " " ++ place_text p ++ codes "=" ++ x) value.added value.given);
       }
     where
-      shape : (n : ℕ) → bindings_text n names s entry (binds_of (b ∷ [])) ≡ option_map (λ x. codes " " ++ place_text p ++ codes "=" ++ x) (cut_text n names s 64 t)
-      shape n = ap (λ v. bindings_text n names s entry ((variable_of v, term_of_word b.word) ∷ [])) is ∙ (both-nil _ ∙ ap (λ u. option_map (λ x. codes " " ++ place_text p ++ codes "=" ++ x) (cut_text n names s 64 u)) (sym term))
+      shape : (n : ℕ) → bound_places_text n names s entry (binds_of (b ∷ [])) ≡ option_map (λ x. codes " " ++ place_text p ++ codes "=" ++ x) (cut_text n names s 64 t)
+      shape n = ap (λ v. bound_places_text n names s entry ((variable_of v, term_of_word b.word) ∷ [])) is ∙ (both-nil _ ∙ ap (λ u. option_map (λ x. codes " " ++ place_text p ++ codes "=" ++ x) (cut_text n names s 64 u)) (sym term))
 
 -- the line of a commit, piece by piece
 pub commit_added : {T E : Type 0} (names : List Bytes) (bound : Bindings) (entry : ℕ) (process : Proc) (clause : ℕ) (bindings : Bindings) (woken : List Proc) (r : Result T E) (t0 t1 t2 t3 t4 t5 t6 t7 t8 : Bytes)
     → t1 ≡ t0 ++ decimal entry → t2 ≡ t1 ++ codes " commit " → t3 ≡ t2 ++ process_text process → t4 ≡ t3 ++ codes " " → t5 ≡ t4 ++ decimal clause
-    → Adds t5 t6 (λ n. bindings_text n names bound entry bindings) → t7 ≡ t6 ++ woken_text woken → OnOk r (t8 ≡ t7 ++ codes "\n")
+    → Adds t5 t6 (λ n. bound_places_text n names bound entry bindings) → t7 ≡ t6 ++ woken_text woken → OnOk r (t8 ≡ t7 ++ codes "\n")
     → OnOk r (AddsCommit t0 t8 names bound entry process clause bindings woken)
 commit_added names bound entry process clause bindings woken (Err x) t0 t1 t2 t3 t4 t5 t6 t7 t8 e1 e2 e3 e4 e5 a e7 e8 = tt
 commit_added names bound entry process clause bindings woken (Ok x) t0 t1 t2 t3 t4 t5 t6 t7 t8 e1 e2 e3 e4 e5 a e7 e8 =

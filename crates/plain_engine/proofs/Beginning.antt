@@ -9,6 +9,7 @@ use Rattle.fcp_model.specs.Programs.{Goal, rename_goal}
 use Rattle.fcp_model.specs.States as run
 use Rattle.fcp_model.specs.States.{is_ready, processes_of}
 use Rattle.fcp_laws.specs.WaitingProcesses.{waiting_of}
+use Rattle.fcp_model.specs.LogText.{log_head}
 use Rattle.fcp_model.specs.OneWorker.{begin}
 use Rattle.fcp_model.specs.Translation.{program_of, start_of, goals_of}
 use Rattle.fcp_laws.proofs.Leading.{led_nowhere}
@@ -48,7 +49,7 @@ in_queue t items old new is none put =
     ∙ ap (λ xs. processes_of 0 1 (map (rename_goal (placed 0)) (goals_of (procedure_names t.loaded.now.clauses) xs))) is)
 
 pub begun : (t : Task) (e : Engine) → IsTask t → e.store ≡ [] → map process_of e.queue.items ≡ processes_of 0 1 (map (rename_goal (placed 0)) (goals_of (procedure_names t.loaded.now.clauses) t.goal.now.items))
-    → e.waiting.items ≡ [] → e.text.items ≡ codes "logix log 1\n" → e.passed ≡ 0 → e.commits ≡ 0 → e.moves ≡ 0 → e.cells ≡ 0 → IsReached t [] e
+    → e.waiting.items ≡ [] → e.text.items ≡ log_head → e.passed ≡ 0 → e.commits ≡ 0 → e.moves ≡ 0 → e.cells ≡ 0 → IsReached t [] e
 begun t e h store queue waiting text passed commits moves cells =
     let hs = procedure_names t.loaded.now.clauses in
     let gs = map (rename_goal (placed 0)) (goals_of hs t.goal.now.items) in

@@ -9,7 +9,8 @@ use Rattle.fcp_model.specs.declared.source.Call.{Call}
 use Rattle.fcp_model.specs.declared.source.Call.TheVariants.{User}
 use Rattle.fcp_model.specs.declared.loaded.ProcedureName.{ProcedureName}
 use Rattle.fcp_model.specs.ProcedureNames.{same_procedure}
-use Rattle.fcp_model.specs.FirstForm.{is_called, is_true}
+use Rattle.fcp_model.specs.Goals.{is_true}
+use Rattle.plain_engine.specs.CalledItems.{is_called}
 
 module _ {X : Type 0} (p : X → Bool) where
   -- an element that passes is found

@@ -1,6 +1,6 @@
--- The clauses of a procedure, by their positions in the module.
-use Rattle.std.proofs.Common.{◌≡◌, ℕ, zero, suc, ◌+◌, ◌<◌, ◌≤◌, Bool, true, false, cond, List, [], ◌∷◌, filter, length, drop, Option, Some, None, refl, sym, ap, ◌∙◌, subst, arith}
-use Rattle.std.specs.Prelude.{slice_get, option_map, nat_le}
+-- The clauses for a call, by their positions in the module.
+use Rattle.std.proofs.Common.{◌≡◌, ℕ, zero, suc, ◌+◌, ◌<◌, ◌≤◌, Bool, true, false, cond, List, [], ◌∷◌, filter, length, map, drop, get_or, Option, Some, None, refl, sym, ap, ◌∙◌, subst, arith, if◌then◌else◌}
+use Rattle.std.specs.Prelude.{slice_get, option_map, nat_eq, nat_le}
 use Rattle.std.specs.List.{filter_map}
 use Rattle.std.proofs.lemmas.Bool.{and_parts}
 use Rattle.std.proofs.lemmas.Bool.Decides.{nat_tests}
@@ -11,43 +11,72 @@ use Rattle.fcp_model.specs.declared.source.Clause as read
 use Rattle.fcp_model.specs.declared.source.Module.{Module}
 use Rattle.fcp_model.specs.declared.loaded.ProcedureName.{ProcedureName}
 use Rattle.fcp_model.specs.ProcedureNames.{procedure_names, procedure_name, same_procedure, put_if, positions_from, positions_in}
-use Rattle.fcp_model.specs.Programs.{clauses_of}
+use Rattle.fcp_model.specs.Programs.{Clause, Procedure}
 use Rattle.fcp_model.specs.Translation.{test_of, clause_of, clauses_called, procedure_of, program_of}
-use Rattle.fcp_model.specs.FirstForm.{is_empty, is_plain_clause}
+use Rattle.plain_engine.specs.declared.word.Word.{Word}
+use Rattle.plain_engine.specs.Words.{term_of_word}
+use Rattle.plain_engine.specs.PlainForms.{is_empty, is_plain_clause}
 use Rattle.plain_engine.specs.Plain.{IsPlain, IsPlainClause}
+use Rattle.plain_engine.specs.Deciding.{clauses_for, ArePositionsFor}
 use Rattle.plain_engine.proofs.Heads.{passes_at, drop_at}
 
--- a clause of a procedure, at a position of the module
-pub record Located (h : ProcedureName) (cs : List read.Clause) (k j : ℕ) : Type 0 where
-  pub clause : read.Clause
-  pub in_text : slice_get cs k ≡ Some clause
-  pub in_order : slice_get (filter (λ c. same_procedure h (procedure_name c)) cs) j ≡ Some clause
+-- the clauses at the positions of a procedure's clauses
+module _ {A : Type 0} (f : read.Clause → A) (h : ProcedureName) (whole : List read.Clause) where
+  abbrev is_its : read.Clause → Bool
+  is_its c = same_procedure h (procedure_name c)
 
-abbrev LocatedFrom : ProcedureName → List read.Clause → ℕ → ℕ → ℕ → Type 0
-LocatedFrom h cs from j at = (k : ℕ) × (at ≡ from + k) × Located h cs k j
+  abbrev at_position : ℕ → Option A
+  at_position at = option_map f (slice_get whole at)
 
-located_from : (h : ProcedureName) (cs : List read.Clause) (from j at : ℕ) → slice_get (positions_from from h cs) j ≡ Some at → LocatedFrom h cs from j at
-located_from h [] from j at e = cc
-located_from h (c ∷ cs) from j at e = go (same_procedure h (procedure_name c)) refl j e (λ i f. located_from h cs (from + 1) i at f)
-  where
-    later : (i j' : ℕ) → ((d : read.Clause) → slice_get (filter (λ x. same_procedure h (procedure_name x)) cs) i ≡ Some d → slice_get (filter (λ x. same_procedure h (procedure_name x)) (c ∷ cs)) j' ≡ Some d) → LocatedFrom h cs (from + 1) i at → LocatedFrom h (c ∷ cs) from j' at
-    later i j' moved l = (suc l.0, omega (arith, l.1), record { clause = l.2.clause; in_text = l.2.in_text; in_order = moved l.2.clause l.2.in_order })
+  positioned_from : (from : ℕ) (cs : List read.Clause) → ((k : ℕ) → slice_get whole (from + k) ≡ slice_get cs k)
+      → map at_position (positions_from from h cs) ≡ map Some (map f (filter is_its cs))
+  positioned_from from [] same = refl
+  positioned_from from (c ∷ cs) same = go (is_its c) (positioned_from (from + 1) cs later)
+    where
+      later : (k : ℕ) → slice_get whole (from + 1 + k) ≡ slice_get cs k
+      later k = let on : from + 1 + k ≡ from + suc k = omega arith in ap (slice_get whole) on ∙ same (suc k)
 
-    go : (b : Bool) → same_procedure h (procedure_name c) ≡ b → (j : ℕ) → slice_get (put_if b from (positions_from (from + 1) h cs)) j ≡ Some at → ((i : ℕ) → slice_get (positions_from (from + 1) h cs) i ≡ Some at → LocatedFrom h cs (from + 1) i at) → LocatedFrom h (c ∷ cs) from j at
-    go true b zero e rec = let same : from ≡ at = cc in (0, omega arith, record { clause = c; in_text = refl; in_order = ap (λ x. slice_get (cond x (c ∷ filter (λ y. same_procedure h (procedure_name y)) cs) (filter (λ y. same_procedure h (procedure_name y)) cs)) 0) b })
-    go true b (suc i) e rec = later i (suc i) (λ d f. ap (λ x. slice_get (cond x (c ∷ filter (λ y. same_procedure h (procedure_name y)) cs) (filter (λ y. same_procedure h (procedure_name y)) cs)) (suc i)) b ∙ f) (rec i e)
-    go false b j e rec = later j j (λ d f. ap (λ x. slice_get (cond x (c ∷ filter (λ y. same_procedure h (procedure_name y)) cs) (filter (λ y. same_procedure h (procedure_name y)) cs)) j) b ∙ f) (rec j e)
+      first : slice_get whole from ≡ Some c
+      first = let here : from ≡ from + 0 = omega arith in ap (slice_get whole) here ∙ same 0
 
-pub located : (h : ProcedureName) (cs : List read.Clause) (j at : ℕ) → slice_get (positions_from 0 h cs) j ≡ Some at → Located h cs at j
-located h cs j at e = let l = located_from h cs 0 j at e in let same : at ≡ l.0 = omega (arith, l.1) in subst (λ k. Located h cs k j) (sym same) l.2
+      go : (b : Bool) → map at_position (positions_from (from + 1) h cs) ≡ map Some (map f (filter is_its cs))
+          → map at_position (put_if b from (positions_from (from + 1) h cs)) ≡ map Some (map f (cond b (c ∷ filter is_its cs) (filter is_its cs)))
+      go true rec = λ i. option_map f (first i) ∷ rec i
+      go false rec = rec
 
-length-positions_from : (h : ProcedureName) (cs : List read.Clause) (from : ℕ) → length (positions_from from h cs) ≡ length (filter (λ c. same_procedure h (procedure_name c)) cs)
-length-positions_from h [] from = refl
-length-positions_from h (c ∷ cs) from = go (same_procedure h (procedure_name c)) (length-positions_from h cs (from + 1))
-  where
-    go : (b : Bool) → length (positions_from (from + 1) h cs) ≡ length (filter (λ x. same_procedure h (procedure_name x)) cs) → length (put_if b from (positions_from (from + 1) h cs)) ≡ length (cond b (c ∷ filter (λ x. same_procedure h (procedure_name x)) cs) (filter (λ x. same_procedure h (procedure_name x)) cs))
-    go true e = ap suc e
-    go false e = e
+  positioned : map at_position (positions_from 0 h whole) ≡ map Some (map f (filter is_its whole))
+  positioned = positioned_from 0 whole (λ k. let same : 0 + k ≡ k = omega arith in ap (slice_get whole) same)
+
+module _ (m : Module) (p : ℕ) (h : ProcedureName) (args : List Word) (named : slice_get (procedure_names m.clauses) p ≡ Some h) where
+  in_program : slice_get (program_of m) p ≡ Some (procedure_of (procedure_names m.clauses) m.clauses h)
+  in_program =
+      slice_get-map (procedure_of (procedure_names m.clauses) m.clauses) (procedure_names m.clauses) p
+      ∙ ap (option_map (procedure_of (procedure_names m.clauses) m.clauses)) named
+
+  clauses_by : (b : Bool) → nat_eq h.arity (length args) ≡ b → clauses_for m p args ≡ cond b (clauses_called (procedure_names m.clauses) h m.clauses) []
+  clauses_by b e =
+      ap (λ o. elim o [ None ↦ [] | Some d ↦ if nat_eq d.arity (length (map term_of_word args)) then d.clauses else [] ]) in_program
+      ∙ ap (λ n. if nat_eq h.arity n then clauses_called (procedure_names m.clauses) h m.clauses else []) (length-map args term_of_word)
+      ∙ ap (λ x. if x then clauses_called (procedure_names m.clauses) h m.clauses else []) e
+
+  -- the procedure has as many arguments as the call
+  pub positions_same : (ps : List ℕ) → slice_get (positions_in m.clauses) p ≡ Some ps → nat_eq h.arity (length args) ≡ true → ArePositionsFor m p args ps
+  positions_same ps e same =
+      let listed : slice_get (positions_in m.clauses) p ≡ Some (positions_from 0 h m.clauses) =
+      slice_get-map (λ g. positions_from 0 g m.clauses) (procedure_names m.clauses) p ∙ ap (option_map (λ g. positions_from 0 g m.clauses)) named in
+      let is : ps ≡ positions_from 0 h m.clauses = let both = sym e ∙ listed in cc in
+      ap (map (λ at. option_map (clause_of (procedure_names m.clauses)) (slice_get m.clauses at))) is
+      ∙ positioned (clause_of (procedure_names m.clauses)) h m.clauses
+      ∙ sym (ap (map Some) (clauses_by true same))
+
+  -- it has another number
+  pub positions_other : nat_eq h.arity (length args) ≡ false → ArePositionsFor m p args []
+  positions_other other = sym (ap (map Some) (clauses_by false other))
+
+-- a clause for the call, at a position
+pub record IsCalled (m : Module) (p : ℕ) (args : List Word) (j : ℕ) (c : read.Clause) : Type 0 where
+  pub there : slice_get (clauses_for m p args) j ≡ Some (clause_of (procedure_names m.clauses) c)
+  pub left : drop j (clauses_for m p args) ≡ clause_of (procedure_names m.clauses) c ∷ drop (j + 1) (clauses_for m p args)
 
 filter_short : {X : Type 0} (p : X → Bool) (xs : List X) → length (filter p xs) ≤ length xs
 filter_short p [] = omega arith
@@ -57,64 +86,63 @@ filter_short p (x ∷ xs) = go (p x) (filter_short p xs)
     go true h = omega arith
     go false h = omega arith
 
--- the procedure of a number, by the positions of its clauses
-pub record IsProcedure (m : Module) (p : ℕ) (ps : List ℕ) : Type 0 where
-  pub head : ProcedureName
-  pub positions : ps ≡ positions_from 0 head m.clauses
-  pub clauses : clauses_of (program_of m) p ≡ clauses_called (procedure_names m.clauses) head m.clauses
-
-pub procedure_is : (m : Module) (p : ℕ) (ps : List ℕ) → slice_get (positions_in m.clauses) p ≡ Some ps → IsProcedure m p ps
-procedure_is m p ps e = go (slice_get (procedure_names m.clauses) p) refl
+-- a call has at most as many clauses as there are
+clauses_short : (m : Module) (p : ℕ) (args : List Word) → length (clauses_for m p args) ≤ length m.clauses
+clauses_short m p args = go (slice_get (procedure_names m.clauses) p) refl
   where
-    mapped : option_map (λ h. positions_from 0 h m.clauses) (slice_get (procedure_names m.clauses) p) ≡ Some ps
-    mapped = sym (slice_get-map (λ h. positions_from 0 h m.clauses) (procedure_names m.clauses) p) ∙ e
+    by : (h : ProcedureName) (b : Bool) → length (cond b (clauses_called (procedure_names m.clauses) h m.clauses) []) ≤ length m.clauses
+    by h true =
+        let long = length-map (filter (λ c. same_procedure h (procedure_name c)) m.clauses) (clause_of (procedure_names m.clauses)) in
+        omega (arith, long, filter_short (λ c. same_procedure h (procedure_name c)) m.clauses)
+    by h false = omega arith
 
-    go : (o : Option ProcedureName) → slice_get (procedure_names m.clauses) p ≡ o → IsProcedure m p ps
-    go None f = let wrong : option_map (λ h. positions_from 0 h m.clauses) None ≡ Some ps = ap (option_map (λ h. positions_from 0 h m.clauses)) (sym f) ∙ mapped in cc
-    go (Some h) f =
-        let same : Some (positions_from 0 h m.clauses) ≡ Some ps = ap (option_map (λ x. positions_from 0 x m.clauses)) (sym f) ∙ mapped in
-        let at : slice_get (program_of m) p ≡ Some (procedure_of (procedure_names m.clauses) m.clauses h) = slice_get-map (procedure_of (procedure_names m.clauses) m.clauses) (procedure_names m.clauses) p ∙ ap (option_map (procedure_of (procedure_names m.clauses) m.clauses)) f in
-        record {
-          head = h;
-          positions = cc;
-          clauses = ap (λ o. elim o [ None ↦ [] | Some d ↦ d.clauses ]) at;
-        }
+    go : (o : Option ProcedureName) → slice_get (procedure_names m.clauses) p ≡ o → length (clauses_for m p args) ≤ length m.clauses
+    go None e =
+        let none : slice_get (program_of m) p ≡ None =
+        slice_get-map (procedure_of (procedure_names m.clauses) m.clauses) (procedure_names m.clauses) p
+        ∙ ap (option_map (procedure_of (procedure_names m.clauses) m.clauses)) e in
+        let empty = ap (λ o. length {A = Clause} (elim o [ None ↦ [] | Some d ↦ if nat_eq d.arity (length (map term_of_word args)) then d.clauses else [] ])) none in
+        omega (arith, empty)
+    go (Some h) e =
+        let is = ap length (clauses_by m p h args e (nat_eq h.arity (length args)) refl) in
+        omega (arith, is, by h (nat_eq h.arity (length args)))
 
--- a clause of the procedure, as the definitions have it
-pub record IsCalled (m : Module) (p j : ℕ) (c : read.Clause) : Type 0 where
-  pub there : slice_get (clauses_of (program_of m) p) j ≡ Some (clause_of (procedure_names m.clauses) c)
-  pub left : drop j (clauses_of (program_of m) p) ≡ clause_of (procedure_names m.clauses) c ∷ drop (j + 1) (clauses_of (program_of m) p)
+module _ (m : Module) (p : ℕ) (args : List Word) (ps : List ℕ) (e : ArePositionsFor m p args ps) where
+  -- there are as many positions as clauses
+  pub length-clauses : length (clauses_for m p args) ≡ length ps
+  length-clauses =
+      sym (length-map (clauses_for m p args) Some) ∙ sym (ap length e)
+      ∙ length-map ps (λ at. option_map (clause_of (procedure_names m.clauses)) (slice_get m.clauses at))
 
-module _ (m : Module) (p : ℕ) (ps : List ℕ) (e : slice_get (positions_in m.clauses) p ≡ Some ps) where
-  found : (j at : ℕ) → slice_get ps j ≡ Some at → Located (procedure_is m p ps e).head m.clauses at j
-  found j at f = located (procedure_is m p ps e).head m.clauses j at (sym (ap (λ xs. slice_get xs j) (procedure_is m p ps e).positions) ∙ f)
+  pub positions_short : length ps ≤ length m.clauses
+  positions_short = omega (arith, length-clauses, clauses_short m p args)
+
+  found : (j at : ℕ) → slice_get ps j ≡ Some at
+      → Some (option_map (clause_of (procedure_names m.clauses)) (slice_get m.clauses at)) ≡ option_map Some (slice_get (clauses_for m p args) j)
+  found j at f =
+      let f_at : ℕ → Option Clause = λ k. option_map (clause_of (procedure_names m.clauses)) (slice_get m.clauses k) in
+      sym (slice_get-map f_at ps j ∙ ap (option_map f_at) f) ∙ ap (λ xs. slice_get xs j) e ∙ slice_get-map Some (clauses_for m p args) j
 
   -- a position is one of the module's
   pub position_within : (j at : ℕ) → slice_get ps j ≡ Some at → at < length m.clauses
-  position_within j at f = let l = found j at f in slice_get_within m.clauses at l.clause l.in_text
+  position_within j at f = go (slice_get m.clauses at) refl (slice_get (clauses_for m p args) j) (found j at f)
+    where
+      go : (o : Option read.Clause) → slice_get m.clauses at ≡ o → (q : Option Clause) → Some (option_map (clause_of (procedure_names m.clauses)) (slice_get m.clauses at)) ≡ option_map Some q → at < length m.clauses
+      go (Some c) is q same = slice_get_within m.clauses at c is
+      go None is None same = cc
+      go None is (Some d) same = let wrong : Some (option_map (clause_of (procedure_names m.clauses)) None) ≡ Some (Some d) = ap (λ o. Some (option_map (clause_of (procedure_names m.clauses)) o)) (sym is) ∙ same in cc
 
-  pub called_at : (j at : ℕ) (c : read.Clause) → slice_get ps j ≡ Some at → slice_get m.clauses at ≡ Some c → IsCalled m p j c
-  called_at j at c f g =
-      let l = found j at f in
-      let same : l.clause ≡ c = let a = l.in_text in cc in
-      let there : slice_get (clauses_of (program_of m) p) j ≡ Some (clause_of (procedure_names m.clauses) c) =
-      ap (λ xs. slice_get xs j) (procedure_is m p ps e).clauses
-      ∙ slice_get-map (clause_of (procedure_names m.clauses)) (filter (λ x. same_procedure (procedure_is m p ps e).head (procedure_name x)) m.clauses) j
-      ∙ ap (option_map (clause_of (procedure_names m.clauses))) (l.in_order ∙ ap Some same) in
-      record { there = there; left = drop_at (clauses_of (program_of m) p) j (clause_of (procedure_names m.clauses) c) there }
+  pub called_at : (j at : ℕ) (c : read.Clause) → slice_get ps j ≡ Some at → slice_get m.clauses at ≡ Some c → IsCalled m p args j c
+  called_at j at c f g = record { there = there; left = drop_at (clauses_for m p args) j (clause_of (procedure_names m.clauses) c) there }
+    where
+      go : (q : Option Clause) → Some (Some (clause_of (procedure_names m.clauses) c)) ≡ option_map Some q → q ≡ Some (clause_of (procedure_names m.clauses) c)
+      go None same = cc
+      go (Some d) same = cc
 
-  -- there are as many positions as clauses
-  pub length-clauses : length (clauses_of (program_of m) p) ≡ length ps
-  length-clauses =
-      ap length (procedure_is m p ps e).clauses
-      ∙ length-map (filter (λ x. same_procedure (procedure_is m p ps e).head (procedure_name x)) m.clauses) (clause_of (procedure_names m.clauses))
-      ∙ sym (length-positions_from (procedure_is m p ps e).head m.clauses 0)
-      ∙ sym (ap length (procedure_is m p ps e).positions)
+      there : slice_get (clauses_for m p args) j ≡ Some (clause_of (procedure_names m.clauses) c)
+      there = go (slice_get (clauses_for m p args) j) (ap (λ o. Some (option_map (clause_of (procedure_names m.clauses)) o)) (sym g) ∙ found j at f)
 
-  pub positions_short : length ps ≤ length m.clauses
-  positions_short = omega (arith, ap length (procedure_is m p ps e).positions, length-positions_from (procedure_is m p ps e).head m.clauses 0, filter_short (λ c. same_procedure (procedure_is m p ps e).head (procedure_name c)) m.clauses)
-
--- a clause of a module of the first form
+-- a clause of a plain module
 pub plain_at : (m : Module) (at : ℕ) (c : read.Clause) → IsPlain m → slice_get m.clauses at ≡ Some c → IsPlainClause c
 plain_at m at c p e = passes_at is_plain_clause m.clauses at c (and_parts _ _ p).1 e
 

@@ -11,7 +11,7 @@ use Rattle.fcp_model.specs.Cells.{clause_used, cells}
 use Rattle.fcp_model.specs.Events.{Event, event_of, settled, is_woken, made_ready, children_of}
 use Rattle.fcp_model.specs.OneWorker.{Schedule, makes, after_event, begin, ruling}
 use Rattle.fcp_model.specs.Spelling.{Bytes, process_text}
-use Rattle.fcp_model.specs.LogText.{event_line, bindings_text, woken_text}
+use Rattle.fcp_model.specs.LogText.{log_head, event_line, bound_places_text, woken_text}
 use Rattle.fcp_model.specs.Translation.{program_of, start_of, clause_of}
 use Rattle.fcp_laws.specs.WaitingProcesses.{waiting_of}
 use Rattle.fcp_laws.proofs.Leading.{led_on}
@@ -34,13 +34,9 @@ use Rattle.plain_engine.proofs.OldGoals.{child_goals_old, AreOldGoals-more, AreO
 use Rattle.plain_engine.proofs.Reaching.{plain, rest, ruled, sound_schedule, queue_is, old_front, line_added}
 
 -- the clause of a number, from 1
-pub used_clause : (m : Program) (p : ℕ) (ts : List (Term Variable)) (k : ℕ) (c : Clause) → 1 ≤ k → slice_get (clauses_of m p) (k - 1) ≡ Some c → clause_used m (user p ts) k ≡ Some c
+pub used_clause : (m : Program) (p : ℕ) (ts : List (Term Variable)) (k : ℕ) (c : Clause) → 1 ≤ k → slice_get (clauses_of m p (length ts)) (k - 1) ≡ Some c → clause_used m (user p ts) k ≡ Some c
 used_clause m p ts zero c h e = absurd (omega arith)
-used_clause m p ts (suc j) c h e = let same : suc j - 1 ≡ j = omega arith in ap (slice_get (clauses_of m p)) (sym same) ∙ e
-
-names_ready : (ps : List run.Process) → map (λ p. p.name) (map made_ready ps) ≡ map (λ p. p.name) ps
-names_ready [] = refl
-names_ready (p ∷ ps) = ap (λ ns. p.name ∷ ns) (names_ready ps)
+used_clause m p ts (suc j) c h e = let same : suc j - 1 ≡ j = omega arith in ap (slice_get (clauses_of m p (length ts))) (sym same) ∙ e
 
 module _ (t : Task) (p : Process) (e : Engine) (r : IsReached t (process_of p ∷ []) e) where
   -- the front commits
@@ -63,21 +59,21 @@ module _ (t : Task) (p : Process) (e : Engine) (r : IsReached t (process_of p �
       let number : suc s.entries ≡ e.moves + 1 = omega (arith, r.stands.entries) in
       let moved : new.moves ≡ suc e.moves = omega (arith, did.moves) in
       let children : ev.children ≡ children_of (e.moves + 1) (Some c) = ap (λ j. children_of j (clause_used m (process_of p).goal k)) number ∙ ap (children_of (e.moves + 1)) used in
-      let woken : ev.woken ≡ map made_ready (filter (λ q. is_woken bs q.status) (map waiting_process e.waiting.items)) =
-      woken_among_waiting bs s.processes ∙ ap (λ ps. map made_ready (filter (λ q. is_woken bs q.status) ps)) r.stands.waiting in
-      let queue : to.queue ≡ map process_of new.queue.items = ap (λ ps. others ++ ps ++ ev.woken) children ∙ (ap (λ ps. others ++ children_of (e.moves + 1) (Some c) ++ ps) woken ∙ sym did.queue) in
+      let woken : ev.woken ≡ filter (λ q. is_woken bs q.status) (map waiting_process e.waiting.items) =
+      woken_among_waiting bs s.processes ∙ ap (filter (λ q. is_woken bs q.status)) r.stands.waiting in
+      let queue : to.queue ≡ map process_of new.queue.items = ap (λ ps. others ++ ps ++ map made_ready ev.woken) children ∙ (ap (λ ps. others ++ children_of (e.moves + 1) (Some c) ++ map made_ready ps) woken ∙ sym did.queue) in
       let slept : waiting_of ev.after.processes ≡ filter (λ q. not (is_woken bs q.status)) (waiting_of s.processes) =
       waiting_after_commit bs (suc s.entries) (clause_used m (process_of p).goal k) (process_of p) s.processes (sound_schedule t p e r).ordered.rise front.0 front.1 in
       let bound : ev.after.bound ≡ bound_of new.store = ap (λ l. l ++ settled (suc s.entries) bs) r.stands.bound ∙ (ap (λ j. bound_of e.store ++ settled j bs) number ∙ sym did.bound) in
-      let woken_names : map (λ q. q.name) ev.woken ≡ map (λ q. q.name) (filter (λ q. is_woken bs q.status) (map waiting_process e.waiting.items)) = ap (map (λ q. q.name)) woken ∙ names_ready _ in
+      let woken_names : map (λ q. q.name) ev.woken ≡ map (λ q. q.name) (filter (λ q. is_woken bs q.status) (map waiting_process e.waiting.items)) = ap (map (λ q. q.name)) woken in
       let shown = did.text.shown in
       let line : Bytes = commit_line (suc s.entries) p.name k shown (map (λ q. q.name) ev.woken) in
-      let texts : Gives (λ j. bindings_text j t.names.now ev.after.bound ev.after.entries bs) shown =
-      gives_same (λ j. bindings_text j t.names.now (bound_of new.store) (e.moves + 1) bs) (λ j. bindings_text j t.names.now ev.after.bound ev.after.entries bs) shown
-      (λ j. ap (λ b. bindings_text j t.names.now b (e.moves + 1) bs) (sym bound) ∙ ap (λ x. bindings_text j t.names.now ev.after.bound x bs) (sym number)) did.text.given in
+      let texts : Gives (λ j. bound_places_text j t.names.now ev.after.bound ev.after.entries bs) shown =
+      gives_same (λ j. bound_places_text j t.names.now (bound_of new.store) (e.moves + 1) bs) (λ j. bound_places_text j t.names.now ev.after.bound ev.after.entries bs) shown
+      (λ j. ap (λ b. bound_places_text j t.names.now b (e.moves + 1) bs) (sym bound) ∙ ap (λ x. bound_places_text j t.names.now ev.after.bound x bs) (sym number)) did.text.given in
       let given : Gives (λ j. event_line j t.names.now ev) line =
       gives_map _ (λ x. decimal (suc s.entries) ++ codes " " ++ x ++ codes "\n") _
-      (gives_map (λ j. bindings_text j t.names.now ev.after.bound ev.after.entries bs) (λ b. codes "commit " ++ process_text p.name ++ codes " " ++ decimal k ++ b ++ woken_text (map (λ q. q.name) ev.woken)) shown texts) in
+      (gives_map (λ j. bound_places_text j t.names.now ev.after.bound ev.after.entries bs) (λ b. codes "commit " ++ process_text p.name ++ codes " " ++ decimal k ++ b ++ woken_text (map (λ q. q.name) ev.woken)) shown texts) in
       let behind : new.text.items ≡ e.text.items ++ line =
       did.text.behind ∙ (ap (λ j. e.text.items ++ commit_line j p.name k shown (map (λ q. q.name) (filter (λ q. is_woken bs q.status) (map waiting_process e.waiting.items)))) (sym number)
       ∙ ap (λ ns. e.text.items ++ commit_line (suc s.entries) p.name k shown ns) (sym woken_names)) in
@@ -87,9 +83,9 @@ module _ (t : Task) (p : Process) (e : Engine) (r : IsReached t (process_of p �
       (child_goals_old (procedure_names t.loaded.now.clauses) new.moves 1 did.used.vars did.used.body
       (body_plain did.used (plain_at t.loaded.now did.position did.used task.plain did.in_text))
       (body_called t.loaded.now did.position did.used task.called did.in_text)) in
-      let risen : AreOldGoals (length (procedure_names t.loaded.now.clauses)) new.moves ev.woken =
-      subst (AreOldGoals (length (procedure_names t.loaded.now.clauses)) new.moves) (sym (woken_among_waiting bs s.processes))
-      (AreOldGoals-ready _ new.moves _ (AreOldGoals-filter _ new.moves (λ q. is_woken bs q.status) (waiting_of s.processes) (AreOldGoals-more _ e.moves new.moves (waiting_of s.processes) later r.old_waiting))) in
+      let risen : AreOldGoals (length (procedure_names t.loaded.now.clauses)) new.moves (map made_ready ev.woken) =
+      AreOldGoals-ready _ new.moves ev.woken (subst (AreOldGoals (length (procedure_names t.loaded.now.clauses)) new.moves) (sym (woken_among_waiting bs s.processes))
+      (AreOldGoals-filter _ new.moves (λ q. is_woken bs q.status) (waiting_of s.processes) (AreOldGoals-more _ e.moves new.moves (waiting_of s.processes) later r.old_waiting))) in
       record {
         events = r.events ++ ev ∷ [];
         at = to;
@@ -106,9 +102,9 @@ module _ (t : Task) (p : Process) (e : Engine) (r : IsReached t (process_of p �
           cells = omega (arith, r.stands.cells, did.used_cells, price);
           controls = r.stands.controls;
         };
-        lines = line_added t.names.now r.events ev (codes "logix log 1\n") e.text.items new.text.items line r.lines given behind;
+        lines = line_added t.names.now r.events ev log_head e.text.items new.text.items line r.lines given behind;
         sound = subst (λ j. IsSound j (bound_of new.store)) (sym moved) (subst (IsSound (suc e.moves)) (ap (λ j. bound_of e.store ++ settled j bs) (sym (add-one e.moves)) ∙ sym did.bound) sound);
-        old_queue = AreOldGoals-append _ new.moves (others ++ ev.children) ev.woken (AreOldGoals-append _ new.moves others ev.children (AreOldGoals-more _ e.moves new.moves others later (old_front t p e r).1) born) risen;
+        old_queue = AreOldGoals-append _ new.moves (others ++ ev.children) (map made_ready ev.woken) (AreOldGoals-append _ new.moves others ev.children (AreOldGoals-more _ e.moves new.moves others later (old_front t p e r).1) born) risen;
         old_waiting = subst (AreOldGoals (length (procedure_names t.loaded.now.clauses)) new.moves) (sym slept) (AreOldGoals-filter _ new.moves (λ q. not (is_woken bs q.status)) (waiting_of s.processes) (AreOldGoals-more _ e.moves new.moves (waiting_of s.processes) later r.old_waiting));
         within = omega (arith, fits, did.used_cells);
       }

@@ -35,14 +35,3 @@ moves_on n m limits at = record {
 
 pub all_moves : (m : Program) (limits : Limits) (s : State) (evs : List Event) (at : Schedule) → Leads m limits (begin s []) evs at → AreMoves evs
 all_moves m limits s evs at l = by_rulings l.steps m limits MovesOn (λ to none. tt) (moves_on l.steps m limits) l.count (begin s []) (evs, at) l.followed refl
-
-moves_counted : (evs : List Event) → AreMoves evs → length evs ≡ moves_in (entries_of evs)
-moves_counted [] h = refl
-moves_counted (ev ∷ evs) h =
-    let rec : length evs ≡ moves_in (entries_of evs) = moves_counted evs h.1 in
-    let here : one (is_move ev.entry) ≡ one true = ap one h.0 in
-    omega (arith, rec, here, sum_by-cons (λ e. cond (is_move e) 1 0) ev.entry (entries_of evs))
-
--- so there are as many events as moves
-pub events_counted : (m : Program) (limits : Limits) (s : State) (evs : List Event) (at : Schedule) → Leads m limits (begin s []) evs at → length evs ≡ at.moves
-events_counted m limits s evs at l = moves_counted evs (all_moves m limits s evs at l) ∙ sym (leads_counts m limits s [] evs at l).moves

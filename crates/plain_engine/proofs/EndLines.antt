@@ -15,7 +15,7 @@ use Rattle.fcp_laws.specs.WaitingProcesses.{is_waiting, waiting_of}
 use Rattle.fcp_model.specs.Spelling.{Bytes, name_at}
 use Rattle.fcp_model.specs.TermText.{cut_text}
 use Rattle.fcp_model.specs.LogText.{both_texts}
-use Rattle.fcp_model.specs.ReportText.{variable_line, variable_lines}
+use Rattle.fcp_model.specs.ReportText.{NamedTerm, named_from, goal_variables, variable_line, variable_lines}
 use Rattle.plain_engine.specs.declared.process.Process.{Process}
 use Rattle.plain_engine.specs.declared.process.Waiting.{Waiting}
 use Rattle.plain_engine.specs.declared.engine.Engine.{Engine}
@@ -38,35 +38,40 @@ both-assoc (Some a) None c = refl
 both-assoc (Some a) (Some b) None = refl
 both-assoc (Some a) (Some b) (Some c) = ap Some (append_assoc a b c)
 
+-- one variable more
+named_from-append : (k : ℕ) (vs : List (Option Sym)) (v : Option Sym) → named_from k (vs ++ v ∷ []) ≡ named_from k vs ++ (v, var (placed 0 (k + length vs))) ∷ []
+named_from-append k [] v = let here : k ≡ k + 0 = omega arith in ap (λ j. (v, var (placed 0 j)) ∷ []) here
+named_from-append k (u ∷ vs) v =
+    let on : (k + 1) + length vs ≡ k + suc (length vs) = omega arith in
+    ap (λ l. (u, var (placed 0 k)) ∷ l) (named_from-append (k + 1) vs v ∙ ap (λ j. named_from (k + 1) vs ++ (v, var (placed 0 j)) ∷ []) on)
+
 module _ (names : List Bytes) (s : Bindings) where
-  variable_lines-append : (n k : ℕ) (vs : List (Option Sym)) (v : Option Sym) → variable_lines n names s k (vs ++ v ∷ []) ≡ both_texts (variable_lines n names s k vs) (variable_line n names s (k + length vs) v)
-  variable_lines-append n k [] v =
-      let here : k ≡ k + 0 = omega arith in
-      both-nil (variable_line n names s k v) ∙ (ap (λ j. variable_line n names s j v) here ∙ sym (nil-both _))
-  variable_lines-append n k (u ∷ vs) v =
-      let on : (k + 1) + length vs ≡ k + suc (length vs) = omega arith in
-      ap (both_texts (variable_line n names s k u)) (variable_lines-append n (k + 1) vs v ∙ ap (λ j. both_texts (variable_lines n names s (k + 1) vs) (variable_line n names s j v)) on)
-      ∙ sym (both-assoc _ _ _)
+  variable_lines-append : (n : ℕ) (vs : List NamedTerm) (v : NamedTerm)
+      → variable_lines n names s (vs ++ v ∷ []) ≡ both_texts (variable_lines n names s vs) (variable_line n names s v.0 v.1)
+  variable_lines-append n [] v = both-nil (variable_line n names s v.0 v.1) ∙ sym (nil-both _)
+  variable_lines-append n (u ∷ vs) v = ap (both_texts (variable_line n names s u.0 u.1)) (variable_lines-append n vs v) ∙ sym (both-assoc _ _ _)
 
   -- the line of one variable more
   pub variable_added : (vs : List (Option Sym)) (i : ℕ) (v d : Option Sym) (one two three : Bytes) → i < length vs → v ≡ get_or vs i d
-      → Adds one two (λ n. variable_lines n names s 1 (take i vs)) → Adds two three (λ n. variable_line n names s (i + 1) v)
-      → Adds one three (λ n. variable_lines n names s 1 (take (i + 1) vs))
+      → Adds one two (λ n. variable_lines n names s (goal_variables (take i vs))) → Adds two three (λ n. variable_line n names s v (var (placed 0 (i + 1))))
+      → Adds one three (λ n. variable_lines n names s (goal_variables (take (i + 1) vs)))
   variable_added vs i v d one two three h at f g =
       let more : take (i + 1) vs ≡ take i vs ++ v ∷ [] = take_more vs i d h ∙ ap (λ x. take i vs ++ x ∷ []) (sym at) in
       let long : length (take i vs) ≡ i = length-take-le i vs (omega arith) in
-      let place : 1 + length (take i vs) ≡ i + 1 = omega (arith, long) in
-      adds_both _ _ _ one two three f g (λ n. sym (ap (variable_lines n names s 1) more ∙ (variable_lines-append n 1 (take i vs) v ∙ ap (λ j. both_texts (variable_lines n names s 1 (take i vs)) (variable_line n names s j v)) place)))
+      let number : 1 + length (take i vs) ≡ i + 1 = omega (arith, long) in
+      let all : goal_variables (take (i + 1) vs) ≡ goal_variables (take i vs) ++ (v, var (placed 0 (i + 1))) ∷ [] =
+      ap goal_variables more ∙ named_from-append 1 (take i vs) v ∙ ap (λ j. goal_variables (take i vs) ++ (v, var (placed 0 j)) ∷ []) number in
+      adds_both _ _ _ one two three f g (λ n. sym (ap (variable_lines n names s) all ∙ variable_lines-append n (goal_variables (take i vs)) (v, var (placed 0 (i + 1)))))
 
   -- the line of a variable with a name, piece by piece
   pub line_added : {T E : Type 0} (k : ℕ) (v : Option Sym) (name : Sym) (r : Result T E) (t0 t1 t2 t3 t4 : Bytes) → v ≡ Some name
       → t1 ≡ t0 ++ name_at names name.0 → t2 ≡ t1 ++ codes " = " → Adds t2 t3 (λ n. cut_text n names s 65536 (var (placed 0 k)))
-      → OnOk r (t4 ≡ t3 ++ codes "\n") → OnOk r (Adds t0 t4 (λ n. variable_line n names s k v))
+      → OnOk r (t4 ≡ t3 ++ codes "\n") → OnOk r (Adds t0 t4 (λ n. variable_line n names s v (var (placed 0 k))))
   line_added k v name (Err x) t0 t1 t2 t3 t4 is e1 e2 a e4 = tt
   line_added k v name (Ok x) t0 t1 t2 t3 t4 is e1 e2 a e4 = record {
     added = name_at names name.0 ++ codes " = " ++ a.added ++ codes "\n";
     behind = e4 ∙ (ap (λ l. l ++ codes "\n") (a.behind ∙ ap (λ l. l ++ a.added) (e2 ∙ ap (λ l. l ++ codes " = ") e1)) ∙ simp append_assoc refl);
-    given = gives_same _ (λ n. variable_line n names s k v) _ (λ n. sym (ap (variable_line n names s k) is))
+    given = gives_same _ (λ n. variable_line n names s v (var (placed 0 k))) _ (λ n. sym (ap (λ w. variable_line n names s w (var (placed 0 k))) is))
         (gives_map (λ n. cut_text n names s 65536 (var (placed 0 k))) (λ x. name_at names name.0 ++ codes " = " ++ x ++ codes "\n") a.added a.given);
   }
 

@@ -16,7 +16,7 @@ use Rattle.fcp_model.specs.ProcedureNames.{same_procedure}
 use Rattle.fcp_model.specs.Programs.{true', user}
 use Rattle.fcp_model.specs.Cells.{term_cells, goal_cells, clause_cells}
 use Rattle.fcp_model.specs.Translation.{term_of, term_step, head_called, user_goal, goal_of, goals_of, clause_of}
-use Rattle.fcp_model.specs.FirstForm.{is_flat, flat_step, are_flat, is_plain_call, are_plain_items, is_empty, is_plain_clause}
+use Rattle.plain_engine.specs.PlainForms.{is_flat, flat_step, are_flat, is_plain_call, are_plain_items, is_empty, is_plain_clause}
 use Rattle.fcp_model.proofs.Folds.{term_induction, fold-Int, fold-Str, fold-Nil, fold-Cons, fold-Tuple, fold-Var, fold-Ro}
 
 module _ (vars : ℕ) where

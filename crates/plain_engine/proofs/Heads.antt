@@ -13,7 +13,7 @@ use Rattle.fcp_model.specs.Pair.{Pair, Step, nothing, binds, clashes, waits, par
 use Rattle.fcp_model.specs.HeadPairs.{mark, head_pairs}
 use Rattle.fcp_model.specs.Unification.{step_on, go_on, unify}
 use Rattle.fcp_model.specs.Translation.{term_step, term_of}
-use Rattle.fcp_model.specs.FirstForm.{flat_step, is_flat}
+use Rattle.plain_engine.specs.PlainForms.{flat_step, is_flat}
 use Rattle.fcp_model.proofs.Folds.{fold-Str, fold-Var, fold-Ro, fold-Nil}
 use Rattle.plain_engine.specs.declared.word.Variable.TheVariants.{Made, Own}
 use Rattle.plain_engine.specs.declared.word.Word.{Word}

@@ -27,5 +27,4 @@ pub mod ShortWays
 pub mod ShownWords
 pub mod Sounds
 pub mod SourceTerms
-pub mod Texts
 pub mod WaitingOrder

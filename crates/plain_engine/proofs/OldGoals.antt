@@ -18,7 +18,9 @@ use Rattle.fcp_model.specs.Events.{made_ready}
 use Rattle.fcp_laws.specs.WaitingProcesses.{with_process}
 use Rattle.fcp_model.specs.Ranks.{Mentions}
 use Rattle.fcp_model.specs.Translation.{term_of, term_step, head_called, user_goal, goal_of, goals_of}
-use Rattle.fcp_model.specs.FirstForm.{is_flat, flat_step, is_plain_call, is_true, is_called, are_called}
+use Rattle.fcp_model.specs.Goals.{is_true}
+use Rattle.plain_engine.specs.PlainForms.{is_flat, flat_step, is_plain_call}
+use Rattle.plain_engine.specs.CalledItems.{is_called, are_called}
 use Rattle.fcp_model.proofs.Folds.{term_induction, fold-Int, fold-Str, fold-Nil, fold-Cons, fold-Tuple, fold-Var, fold-Ro}
 use Rattle.plain_engine.specs.Plain.{ArePlainItems}
 use Rattle.plain_engine.specs.Sound.{IsAmong}

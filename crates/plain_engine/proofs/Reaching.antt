@@ -13,7 +13,7 @@ use Rattle.fcp_model.specs.Cells.{cells}
 use Rattle.fcp_model.specs.Events.{Event, event_of}
 use Rattle.fcp_model.specs.OneWorker.{Schedule, passes, makes, after_event, begin, front_ruling, ruling}
 use Rattle.fcp_model.specs.Spelling.{Bytes}
-use Rattle.fcp_model.specs.LogText.{event_line, event_lines, both_texts}
+use Rattle.fcp_model.specs.LogText.{log_head, event_line, event_lines, both_texts}
 use Rattle.fcp_model.specs.Translation.{program_of, start_of, started_goals}
 use Rattle.fcp_model.specs.LawfulStates.{NamesRise}
 use Rattle.fcp_laws.specs.Schedules.{IsSoundSchedule}
@@ -26,7 +26,8 @@ use Rattle.plain_engine.specs.declared.engine.Task.{Task}
 use Rattle.plain_engine.specs.declared.engine.Engine.{Engine}
 use Rattle.plain_engine.specs.Words.{bound_of}
 use Rattle.plain_engine.specs.Sound.{AreAmong, IsSound}
-use Rattle.plain_engine.specs.Additions.{Gives, Adds, hang_line, fail_line}
+use Rattle.fcp_model.specs.LogLines.{hang_line, fail_line}
+use Rattle.plain_engine.specs.Additions.{Gives, Adds}
 use Rattle.plain_engine.specs.Processes.{process_of, waiting_process}
 use Rattle.plain_engine.specs.Engines.{AreOldGoals, IsOldGoal, IsReached, HasRoom, HasFailed, Passes, Hangs, Fails}
 use Rattle.plain_engine.proofs.AddedTexts.{gives_known, adds_both}
@@ -122,7 +123,7 @@ module _ (t : Task) (p : Process) (e : Engine) (r : IsReached t (process_of p �
           cells = r.stands.cells ∙ sym did.cells;
           controls = r.stands.controls;
         };
-        lines = subst (λ x. Adds (codes "logix log 1\n") x.items (λ n. event_lines n t.names.now r.events)) (sym did.text) r.lines;
+        lines = subst (λ x. Adds log_head x.items (λ n. event_lines n t.names.now r.events)) (sym did.text) r.lines;
         sound = subst (λ k. IsSound k (bound_of new.store)) (sym did.moves) (subst (λ s. IsSound e.moves (bound_of s)) (sym did.store) r.sound);
         old_queue = subst (λ k. AreOldGoals (length (procedure_names t.loaded.now.clauses)) k (rest ++ process_of p ∷ [])) (sym did.moves) (AreOldGoals-append _ e.moves rest (process_of p ∷ []) old_front.1 (old_front.0, tt));
         old_waiting = subst (λ k. AreOldGoals (length (procedure_names t.loaded.now.clauses)) k (waiting_of r.at.state.processes)) (sym did.moves) r.old_waiting;
@@ -163,7 +164,7 @@ module _ (t : Task) (p : Process) (e : Engine) (r : IsReached t (process_of p �
           cells = omega (arith, r.stands.cells, did.used_cells, price);
           controls = r.stands.controls;
         };
-        lines = line_added t.names.now r.events ev (codes "logix log 1\n") e.text.items new.text.items (hang_line (suc r.at.state.entries) p.name (places_among rs)) r.lines (gives_known _) line;
+        lines = line_added t.names.now r.events ev log_head e.text.items new.text.items (hang_line (suc r.at.state.entries) p.name (places_among rs)) r.lines (gives_known _) line;
         sound = subst (λ k. IsSound k (bound_of new.store)) (sym did.moves) (subst (λ s. IsSound (e.moves + 1) (bound_of s)) (sym did.store) (sound_later e.moves (bound_of e.store) r.sound));
         old_queue = subst (λ q. AreOldGoals (length (procedure_names t.loaded.now.clauses)) new.moves q) (sym same_queue) (AreOldGoals-more _ e.moves new.moves rest (omega (arith, did.moves)) old_front.1);
         old_waiting = AreOldGoals-more _ e.moves new.moves (waiting_of ev.after.processes) (omega (arith, did.moves))
@@ -173,8 +174,8 @@ module _ (t : Task) (p : Process) (e : Engine) (r : IsReached t (process_of p �
       }
 
   -- the front fails
-  pub fail_reached : (new : Engine) → Fails e new p → HasRoom t e → (rs : List Variable) → Decides m (bound_of e.store) (process_of p).goal (decides_fail rs) → length r.events ≡ r.at.moves → HasFailed t new
-  fail_reached new did room rs (n, is) counted =
+  pub fail_reached : (new : Engine) → Fails e new p → HasRoom t e → (rs : List Variable) → Decides m (bound_of e.store) (process_of p).goal (decides_fail rs) → HasFailed t new
+  fail_reached new did room rs (n, is) =
       let ev : Event = event_of m r.at.state (process_of p) (decides_fail rs) in
       let to : Schedule = after_event r.at rest ev in
       let enough : r.at.cells + ev.cells ≤ t.limits.cells = omega (arith, r.within, r.stands.cells) in
@@ -191,8 +192,8 @@ module _ (t : Task) (p : Process) (e : Engine) (r : IsReached t (process_of p �
         mode = refl;
         controls = r.stands.controls;
         bound = r.stands.bound ∙ ap bound_of (sym did.store);
-        entries = omega (arith, length_push r.events ev, counted, r.stands.moves, did.moves);
-        lines = line_added t.names.now r.events ev (codes "logix log 1\n") e.text.items new.text.items (fail_line (suc r.at.state.entries) p.name) r.lines (gives_known _)
+        entries = number ∙ sym did.moves;
+        lines = line_added t.names.now r.events ev log_head e.text.items new.text.items (fail_line (suc r.at.state.entries) p.name) r.lines (gives_known _)
             (did.text ∙ ap (λ k. e.text.items ++ fail_line k p.name) (sym number));
         sound = subst (λ k. IsSound k (bound_of new.store)) (sym did.moves) (subst (λ s. IsSound (e.moves + 1) (bound_of s)) (sym did.store) (sound_later e.moves (bound_of e.store) r.sound));
       }

@@ -1,7 +1,6 @@
 -- The report of a run without controls, from its log and its end.
 use Rattle.std.proofs.Common.{◌≡◌, ℕ, zero, suc, ◌-◌, true, List, [], ◌∷◌, ◌++◌, length, drop, Option, Some, refl, sym, ap, ◌∙◌, subst, append_assoc, append-nil, arith}
 use Rattle.std.specs.Prelude.{Result, Ok, Err, IfOk, codes, decimal}
-use Rattle.fcp_model.specs.declared.names.Sym.{Sym}
 use Rattle.fcp_model.specs.declared.run.Control.{Control}
 use Rattle.fcp_model.specs.declared.run.Entry.{Entry}
 use Rattle.fcp_model.specs.declared.run.Entry.TheVariants.{Commit, Hang, Fail, Snapshot, Suspend, Resume, Abort}
@@ -17,8 +16,9 @@ use Rattle.fcp_model.specs.OneWorker.{Schedule, IsOneWorkerRun}
 use Rattle.fcp_laws.specs.Endings.{outcome_at}
 use Rattle.fcp_model.specs.Outcomes.{Ends}
 use Rattle.fcp_model.specs.Spelling.{Bytes}
-use Rattle.fcp_model.specs.LogText.{event_lines, log_text}
-use Rattle.fcp_model.specs.ReportText.{outcome_word, variable_lines, not_reached_lines, snapshots_at, snapshot_texts, report_text}
+use Rattle.fcp_model.specs.LogText.{log_head, event_lines, log_text}
+use Rattle.fcp_model.specs.LogLines.{end_line, outcome_line}
+use Rattle.fcp_model.specs.ReportText.{NamedTerm, goal_variables, variable_lines, not_reached_lines, snapshots_at, snapshot_texts, report_text}
 use Rattle.fcp_model.specs.Reports.{IsOneWorkerReport}
 use Rattle.fcp_model.specs.Translation.{program_of, start_of, started_goals}
 use Rattle.fcp_laws.proofs.SoundSchedules.{start_ordered}
@@ -29,12 +29,12 @@ use Rattle.plain_engine.specs.declared.engine.Engine.{Engine}
 use Rattle.plain_engine.specs.declared.report.Report.{Report}
 use Rattle.plain_engine.specs.Words.{bound_of}
 use Rattle.plain_engine.specs.Additions.{Gives, Adds}
-use Rattle.plain_engine.specs.EndTexts.{end_lines, AddsEnd}
+use Rattle.plain_engine.specs.EndTexts.{AddsEnd}
 use Rattle.plain_engine.specs.Engines.{ScheduledAt, HasEnded, HasFailed}
-use Rattle.plain_engine.proofs.Counting.{AreMoves, all_moves, events_counted}
+use Rattle.plain_engine.proofs.Counting.{AreMoves, all_moves}
 use Rattle.plain_engine.proofs.AddedTexts.{gives_known, gives_both, gives_map, gives_same}
 
-module _ (n : ℕ) (names : List Bytes) (variables : List (Option Sym)) (m : Program) where
+module _ (n : ℕ) (names : List Bytes) (variables : List NamedTerm) (m : Program) where
   no_snapshot : (s : State) (e : Entry) → is_move e ≡ true → snapshots_at n names variables m s e ≡ Some []
   no_snapshot s (Commit p k) h = refl
   no_snapshot s (Hang p) h = refl
@@ -53,9 +53,9 @@ drop_nothing zero = refl
 drop_nothing (suc k) = refl
 
 -- the pieces of a report, as the definition and as the code put them together
-arranged : (head lines ending number feed saying word shown : Bytes) →
-    (head ++ lines ++ ending ++ number ++ feed) ++ ((saying ++ word ++ feed) ++ (shown ++ ([] ++ []))) ≡ (head ++ lines) ++ (ending ++ number ++ feed ++ saying ++ word ++ feed) ++ shown
-arranged head lines ending number feed saying word shown = simp (append_assoc, append-nil) refl
+arranged : (head lines ending number feed outcome shown : Bytes) →
+    (head ++ lines ++ ending ++ number ++ feed) ++ (outcome ++ (shown ++ ([] ++ []))) ≡ (head ++ lines) ++ (ending ++ number ++ feed) ++ outcome ++ shown
+arranged head lines ending number feed outcome shown = simp (append_assoc, append-nil) refl
 
 -- the report of a run without controls that ended at a schedule
 module _ (t : Task) (events : List Event) (at : Schedule) (run_is : IsOneWorkerRun (program_of t.loaded.now) t.limits (start_of t.loaded.now t.goal.now) [] events at) where
@@ -65,35 +65,42 @@ module _ (t : Task) (events : List Event) (at : Schedule) (run_is : IsOneWorkerR
   abbrev s : State
   s = start_of t.loaded.now t.goal.now
 
-  pub moves_made : length events ≡ at.moves
-  moves_made = events_counted m t.limits s events at run_is.leads
+  abbrev variables : List NamedTerm
+  variables = goal_variables t.goal.now.names
 
-  abbrev whole : Bytes → Bytes → Outcome → Bytes
-  whole lines shown o = (codes "logix log 1\n" ++ lines ++ codes "end " ++ decimal (length events) ++ codes "\n") ++ ((codes "outcome " ++ outcome_word o ++ codes "\n") ++ (shown ++ ([] ++ [])))
+  last_is : at.state ≡ last_state s events
+  last_is = (leads_counts m t.limits s [] events at run_is.leads).state
 
-  gives_whole : (lines shown : Bytes) (o : Outcome) (reached : ℕ) → Gives (λ n. event_lines n t.names.now events) lines → Gives (λ n. variable_lines n t.names.now at.state.bound 1 t.goal.now.names) shown
-      → Gives (λ n. report_text n t.names.now t.goal.now.names m s events o [] reached) (whole lines shown o)
+  -- the whole text
+  abbrev whole : ℕ → Bytes → Bytes → Outcome → Bytes
+  whole last lines shown o = (log_head ++ lines ++ codes "end " ++ decimal last ++ codes "\n") ++ (outcome_line o ++ (shown ++ ([] ++ [])))
+
+  gives_whole : (lines shown : Bytes) (o : Outcome) (reached : ℕ) → Gives (λ n. event_lines n t.names.now events) lines
+      → Gives (λ n. variable_lines n t.names.now at.state.bound variables) shown
+      → Gives (λ n. report_text n t.names.now variables m s events o [] reached) (whole (last_state s events).entries lines shown o)
   gives_whole lines shown o reached f g =
-      gives_both (λ n. log_text n t.names.now events) _ _ _ (gives_map (λ n. event_lines n t.names.now events) (λ x. codes "logix log 1\n" ++ x ++ codes "end " ++ decimal (length events) ++ codes "\n") lines f)
-      (gives_both (λ n. Some (codes "outcome " ++ outcome_word o ++ codes "\n")) _ _ _ (gives_known _)
-      (gives_both (λ n. variable_lines n t.names.now (last_state s events).bound 1 t.goal.now.names) _ _ _
-      (gives_same (λ n. variable_lines n t.names.now at.state.bound 1 t.goal.now.names) _ _ (λ n. ap (λ (x : State). variable_lines n t.names.now x.bound 1 t.goal.now.names) (leads_counts m t.limits s [] events at run_is.leads).state) g)
-      (gives_both (λ n. Some (not_reached_lines (drop reached []))) (λ n. snapshot_texts n t.names.now t.goal.now.names m events) _ _
+      let last : ℕ = (last_state s events).entries in
+      gives_both (λ n. log_text n t.names.now log_head last events) _ _ _
+      (gives_map (λ n. event_lines n t.names.now events) (λ x. log_head ++ x ++ codes "end " ++ decimal last ++ codes "\n") lines f)
+      (gives_both (λ n. Some (outcome_line o)) _ _ _ (gives_known _)
+      (gives_both (λ n. variable_lines n t.names.now (last_state s events).bound variables) _ _ _
+      (gives_same (λ n. variable_lines n t.names.now at.state.bound variables) _ _ (λ n. ap (λ (x : State). variable_lines n t.names.now x.bound variables) last_is) g)
+      (gives_both (λ n. Some (not_reached_lines (drop reached []))) (λ n. snapshot_texts n t.names.now variables m events) _ _
       (gives_same (λ n. Some []) _ _ (λ n. ap (λ cs. Some (not_reached_lines cs)) (sym (drop_nothing reached))) (gives_known []))
-      (gives_same (λ n. Some []) _ _ (λ n. sym (no_snapshots n t.names.now t.goal.now.names m events (all_moves m t.limits s events at run_is.leads))) (gives_known [])))))
+      (gives_same (λ n. Some []) _ _ (λ n. sym (no_snapshots n t.names.now variables m events (all_moves m t.limits s events at run_is.leads))) (gives_known [])))))
 
-  pub reported : (moves : ℕ) (bound : Bindings) (o : Outcome) (log text : Bytes) → at.moves ≡ moves → at.state.bound ≡ bound → o ≡ outcome_at t.limits at
-      → Adds (codes "logix log 1\n") log (λ n. event_lines n t.names.now events) → AddsEnd log text t.names.now t.goal.now.names bound moves o
-      → IsOneWorkerReport m s t.limits [] t.names.now t.goal.now.names o text
+  pub reported : (moves : ℕ) (bound : Bindings) (o : Outcome) (log text : Bytes) → at.state.entries ≡ moves → at.state.bound ≡ bound → o ≡ outcome_at t.limits at
+      → Adds log_head log (λ n. event_lines n t.names.now events) → AddsEnd log text t.names.now t.goal.now.names bound moves o
+      → IsOneWorkerReport m s t.limits [] t.names.now variables o text
   reported moves bound o log text counted found is lines end =
       let reached : ℕ = length {A = Control} [] - length at.controls in
-      let made : length events ≡ moves = moves_made ∙ counted in
-      let shown = subst (λ b. Gives (λ n. variable_lines n t.names.now b 1 t.goal.now.names) end.shown) (sym found) end.given in
+      let made : (last_state s events).entries ≡ moves = ap (λ (x : State). x.entries) (sym last_is) ∙ counted in
+      let shown = subst (λ b. Gives (λ n. variable_lines n t.names.now b variables) end.shown) (sym found) end.given in
       let given = gives_whole lines.added end.shown o reached lines.given shown in
-      let same : whole lines.added end.shown o ≡ text =
-      ap (λ k. (codes "logix log 1\n" ++ lines.added ++ codes "end " ++ decimal k ++ codes "\n") ++ ((codes "outcome " ++ outcome_word o ++ codes "\n") ++ (end.shown ++ ([] ++ [])))) made
-      ∙ (arranged (codes "logix log 1\n") lines.added (codes "end ") (decimal moves) (codes "\n") (codes "outcome ") (outcome_word o) end.shown
-      ∙ sym (end.behind ∙ ap (λ l. l ++ end_lines moves o ++ end.shown) lines.behind)) in
+      let same : whole (last_state s events).entries lines.added end.shown o ≡ text =
+      ap (λ k. whole k lines.added end.shown o) made
+      ∙ (arranged log_head lines.added (codes "end ") (decimal moves) (codes "\n") (outcome_line o) end.shown
+      ∙ sym (end.behind ∙ ap (λ l. l ++ end_line moves ++ outcome_line o ++ end.shown) lines.behind)) in
       record {
         events = events;
         last = at;
@@ -106,19 +113,18 @@ module _ (t : Task) (events : List Event) (at : Schedule) (run_is : IsOneWorkerR
 -- the two ends
 pub report_ended : {E : Type 0} (t : Task) (e : Engine) (h : HasEnded t e) (o : Outcome) (r : Result Report E) → ((at : Schedule) → ScheduledAt [] e at → o ≡ outcome_at t.limits at)
     → IfOk r (λ r. r.outcome ≡ o) → IfOk r (λ r. AddsEnd e.text.items r.text.items t.names.now t.goal.now.names (bound_of e.store) e.moves o)
-    → IfOk r (λ r. IsOneWorkerReport (program_of t.loaded.now) (start_of t.loaded.now t.goal.now) t.limits [] t.names.now t.goal.now.names r.outcome r.text.items)
+    → IfOk r (λ r. IsOneWorkerReport (program_of t.loaded.now) (start_of t.loaded.now t.goal.now) t.limits [] t.names.now (goal_variables t.goal.now.names) r.outcome r.text.items)
 report_ended t e h o (Err x) is f g = tt
 report_ended t e h o (Ok x) is f g =
     let h' = h.reached in
-    subst (λ o. IsOneWorkerReport (program_of t.loaded.now) (start_of t.loaded.now t.goal.now) t.limits [] t.names.now t.goal.now.names o x.text.items) (sym f)
-    (reported t h'.events h'.at (record { leads = h'.leads; steps = h.steps; ended = h.ended }) e.moves (bound_of e.store) o e.text.items x.text.items h'.stands.moves h'.stands.bound (is h'.at h'.stands) h'.lines g)
+    subst (λ o. IsOneWorkerReport (program_of t.loaded.now) (start_of t.loaded.now t.goal.now) t.limits [] t.names.now (goal_variables t.goal.now.names) o x.text.items) (sym f)
+    (reported t h'.events h'.at (record { leads = h'.leads; steps = h.steps; ended = h.ended }) e.moves (bound_of e.store) o e.text.items x.text.items h'.stands.entries h'.stands.bound (is h'.at h'.stands) h'.lines g)
 
 pub report_failed : {E : Type 0} (t : Task) (e : Engine) (h : HasFailed t e) (r : Result Report E)
     → IfOk r (λ r. r.outcome ≡ Failed) → IfOk r (λ r. AddsEnd e.text.items r.text.items t.names.now t.goal.now.names (bound_of e.store) e.moves Failed)
-    → IfOk r (λ r. IsOneWorkerReport (program_of t.loaded.now) (start_of t.loaded.now t.goal.now) t.limits [] t.names.now t.goal.now.names r.outcome r.text.items)
+    → IfOk r (λ r. IsOneWorkerReport (program_of t.loaded.now) (start_of t.loaded.now t.goal.now) t.limits [] t.names.now (goal_variables t.goal.now.names) r.outcome r.text.items)
 report_failed t e h (Err x) f g = tt
 report_failed t e h (Ok x) f g =
     let failed : Failed ≡ outcome_at t.limits h.at = let mode = h.mode in rw mode refl in
-    let counted = sym (moves_made t h.events h.at h.run_is) ∙ h.entries in
-    subst (λ o. IsOneWorkerReport (program_of t.loaded.now) (start_of t.loaded.now t.goal.now) t.limits [] t.names.now t.goal.now.names o x.text.items) (sym f)
-    (reported t h.events h.at h.run_is e.moves (bound_of e.store) Failed e.text.items x.text.items counted h.bound failed h.lines g)
+    subst (λ o. IsOneWorkerReport (program_of t.loaded.now) (start_of t.loaded.now t.goal.now) t.limits [] t.names.now (goal_variables t.goal.now.names) o x.text.items) (sym f)
+    (reported t h.events h.at h.run_is e.moves (bound_of e.store) Failed e.text.items x.text.items h.entries h.bound failed h.lines g)

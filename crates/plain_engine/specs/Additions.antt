@@ -1,10 +1,9 @@
--- Texts that a function puts behind a text, where the definitions give them from some number of steps on.
+-- Texts that a function puts after a text, where the definitions give them from some number of steps on.
 use Rattle.std.specs.Prelude.{◌≡◌, ℕ, ◌≤◌, ◌++◌, List, Option, Some, codes, decimal}
 use Rattle.fcp_model.specs.declared.run.Proc.{Proc}
-use Rattle.fcp_model.specs.declared.run.Place.{Place}
 use Rattle.fcp_model.specs.Terms.{Bindings}
 use Rattle.fcp_model.specs.Spelling.{Bytes, string_text, name_at, variable_text, process_text}
-use Rattle.fcp_model.specs.LogText.{woken_text, places_text, bindings_text}
+use Rattle.fcp_model.specs.LogText.{woken_text, bound_places_text}
 use Rattle.plain_engine.specs.declared.word.Word.{Word}
 use Rattle.plain_engine.specs.declared.word.Word.TheVariants.{Text, Var, ReadOnly}
 use Rattle.plain_engine.specs.Words.{variable_of}
@@ -13,7 +12,7 @@ use Rattle.plain_engine.specs.Words.{variable_of}
 abbrev pub Gives : {A : Type 0} → (ℕ → Option A) → A → Type 0
 Gives f a = (n : ℕ) × ((k : ℕ) → n ≤ k → f k ≡ Some a)
 
--- the new text is the old one with what the definition gives behind it
+-- the new text is the old one with what the definition gives after it
 pub record Adds (old new : Bytes) (f : ℕ → Option Bytes) : Type 0 where
   pub added : Bytes
   pub behind : new ≡ old ++ added
@@ -29,16 +28,8 @@ word_text names (ReadOnly v) = variable_text (variable_of v) ++ codes "?"
 abbrev pub commit_line : ℕ → Proc → ℕ → Bytes → List Proc → Bytes
 commit_line entry process clause bindings woken = decimal entry ++ codes " " ++ (codes "commit " ++ process_text process ++ codes " " ++ decimal clause ++ bindings ++ woken_text woken) ++ codes "\n"
 
--- the line of a hang
-abbrev pub hang_line : ℕ → Proc → List Place → Bytes
-hang_line entry process places = decimal entry ++ codes " " ++ (codes "hang " ++ process_text process ++ places_text places) ++ codes "\n"
-
--- the line of a fail
-abbrev pub fail_line : ℕ → Proc → Bytes
-fail_line entry process = decimal entry ++ codes " " ++ (codes "fail " ++ process_text process) ++ codes "\n"
-
--- the line of a commit was put behind a text, with the bindings by value in the map `bound`
+-- the line of a commit was put after a text, with the bindings by value in the map `bound`
 pub record AddsCommit (old new : Bytes) (names : List Bytes) (bound : Bindings) (entry : ℕ) (process : Proc) (clause : ℕ) (bindings : Bindings) (woken : List Proc) : Type 0 where
   pub shown : Bytes
-  pub given : Gives (λ n. bindings_text n names bound entry bindings) shown
+  pub given : Gives (λ n. bound_places_text n names bound entry bindings) shown
   pub behind : new ≡ old ++ commit_line entry process clause shown woken

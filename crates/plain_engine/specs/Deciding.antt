@@ -1,8 +1,11 @@
 -- What a decision says, and what it leaves sound.
-use Rattle.std.specs.Prelude.{◌≡◌, ℕ, suc, List, ◌++◌, map, Some}
+use Rattle.std.specs.Prelude.{◌≡◌, ℕ, suc, List, ◌++◌, map, length, Some, slice_get, option_map}
+use Rattle.fcp_model.specs.declared.source.Module.{Module}
+use Rattle.fcp_model.specs.ProcedureNames.{procedure_names}
 use Rattle.fcp_model.specs.Places.{Variable, places_among}
 use Rattle.fcp_model.specs.Terms.{Bindings}
-use Rattle.fcp_model.specs.Programs.{Goal, user, Clause, Program}
+use Rattle.fcp_model.specs.Programs.{Goal, user, Clause, Program, clauses_of}
+use Rattle.fcp_model.specs.Translation.{clause_of, program_of}
 use Rattle.fcp_model.specs.Decisions.{commits, decides_fail, waits_on, Decides}
 use Rattle.fcp_model.specs.Cells.{clause_used}
 use Rattle.fcp_model.specs.Events.{settled}
@@ -15,6 +18,15 @@ use Rattle.plain_engine.specs.Sound.{AreAmong, IsSound, AreFresh}
 -- the call of a procedure with some words
 abbrev pub goal_with : ℕ → List Word → Goal Variable
 goal_with procedure args = user procedure (map term_of_word args)
+
+-- the clauses for the call of a procedure with some words: none where the procedure has another number of arguments
+abbrev pub clauses_for : Module → ℕ → List Word → List Clause
+clauses_for m procedure args = clauses_of (program_of m) procedure (length (map term_of_word args))
+
+-- the clauses at these positions of the module are those for the call, in order
+abbrev pub ArePositionsFor : Module → ℕ → List Word → List ℕ → Type 0
+ArePositionsFor m procedure args positions =
+    map (λ at. option_map (clause_of (procedure_names m.clauses)) (slice_get m.clauses at)) positions ≡ map Some (clauses_for m procedure args)
 
 -- the decision, by the definitions, with some reads; a waiting set is that of the reads
 abbrev pub DecidesAs : Program → Bindings → Goal Variable → Decision → Type 0

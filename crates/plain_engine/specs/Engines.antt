@@ -5,15 +5,16 @@ use Rattle.fcp_model.specs.declared.source.Clause as read
 use Rattle.fcp_model.specs.ProcedureNames.{procedure_names}
 use Rattle.fcp_model.specs.Places.{Variable}
 use Rattle.fcp_model.specs.Terms.{Term}
-use Rattle.fcp_model.specs.Programs.{Goal, user, true', unifies, assigns, clauses_of}
+use Rattle.fcp_model.specs.Programs.{Goal, user, true', unifies, assigns}
 use Rattle.fcp_model.specs.States as run
 use Rattle.fcp_model.specs.Events.{Event, settled, is_woken, made_ready, children_of}
 use Rattle.fcp_model.specs.OneWorker.{Schedule, Leads, IsOneWorkerRun, ruling, begin, ends}
 use Rattle.fcp_laws.specs.WaitingProcesses.{waiting_of, with_process}
-use Rattle.fcp_model.specs.LogText.{event_lines}
+use Rattle.fcp_model.specs.LogText.{log_head, event_lines}
+use Rattle.fcp_model.specs.LogLines.{hang_line, fail_line}
 use Rattle.fcp_model.specs.Ranks.{Mentions}
 use Rattle.fcp_model.specs.Translation.{program_of, start_of, clause_of}
-use Rattle.fcp_model.specs.FirstForm.{bodies_called, goal_called}
+use Rattle.plain_engine.specs.CalledItems.{bodies_called, goal_called}
 use Rattle.plain_engine.specs.declared.word.Binding.{Binding}
 use Rattle.plain_engine.specs.declared.process.Process.{Process}
 use Rattle.plain_engine.specs.declared.engine.Task.{Task}
@@ -23,7 +24,8 @@ use Rattle.plain_engine.specs.declared.engine.Ruled.TheVariants as ruled
 use Rattle.plain_engine.specs.Words.{binds_of, bound_of}
 use Rattle.plain_engine.specs.Plain.{IsPlain, IsPlainGoal}
 use Rattle.plain_engine.specs.Sound.{IsAmong, IsSound, AreFresh}
-use Rattle.plain_engine.specs.Additions.{Adds, AddsCommit, hang_line, fail_line}
+use Rattle.plain_engine.specs.Additions.{Adds, AddsCommit}
+use Rattle.plain_engine.specs.Deciding.{clauses_for}
 use Rattle.plain_engine.specs.Processes.{process_of, waiting_process}
 
 -- the task is of strings and variables alone, and each item calls a procedure of the module
@@ -72,7 +74,7 @@ pub record IsReached (t : Task) (front : List run.Process) (e : Engine) : Type 0
   pub at : Schedule
   pub leads : Leads (program_of t.loaded.now) t.limits (begin (start_of t.loaded.now t.goal.now) []) events at
   pub stands : ScheduledAt front e at
-  pub lines : Adds (codes "logix log 1\n") e.text.items (λ n. event_lines n t.names.now events)
+  pub lines : Adds log_head e.text.items (λ n. event_lines n t.names.now events)
   pub sound : IsSound e.moves (bound_of e.store)
   pub old_queue : AreOldGoals (length (procedure_names t.loaded.now.clauses)) e.moves at.queue
   pub old_waiting : AreOldGoals (length (procedure_names t.loaded.now.clauses)) e.moves (waiting_of at.state.processes)
@@ -83,7 +85,7 @@ pub record MayCommit (t : Task) (e : Engine) (p : Process) (clause : ℕ) (bindi
   pub task : IsTask t
   pub procedure : p.procedure < length (procedure_names t.loaded.now.clauses)
   pub first : 1 ≤ clause
-  pub there : clause ≤ length (clauses_of (program_of t.loaded.now) p.procedure)
+  pub there : clause ≤ length (clauses_for t.loaded.now p.procedure p.args.items)
   pub fresh : AreFresh (bound_of e.store) (settled (suc e.moves) (binds_of bindings))
   pub sound : IsSound (suc e.moves) (bound_of e.store ++ settled (suc e.moves) (binds_of bindings))
   pub commits : e.commits + 1 < 4294967296
@@ -93,7 +95,7 @@ pub record MayCommit (t : Task) (e : Engine) (p : Process) (clause : ℕ) (bindi
 -- what a commit makes
 pub record Commits (t : Task) (old new : Engine) (p : Process) (clause : ℕ) (bindings : List Binding) (cells : ℕ) : Type 0 where
   pub used : read.Clause
-  pub is_used : slice_get (clauses_of (program_of t.loaded.now) p.procedure) (clause - 1) ≡ Some (clause_of (procedure_names t.loaded.now.clauses) used)
+  pub is_used : slice_get (clauses_for t.loaded.now p.procedure p.args.items) (clause - 1) ≡ Some (clause_of (procedure_names t.loaded.now.clauses) used)
   pub position : ℕ
   pub in_text : slice_get t.loaded.now.clauses position ≡ Some used
   pub bound : bound_of new.store ≡ bound_of old.store ++ settled (old.moves + 1) (binds_of bindings)
@@ -153,8 +155,8 @@ pub record HasFailed (t : Task) (e : Engine) : Type 0 where
   pub mode : at.state.mode ≡ run.is_failed
   pub controls : at.controls ≡ []
   pub bound : at.state.bound ≡ bound_of e.store
-  pub entries : length events ≡ e.moves
-  pub lines : Adds (codes "logix log 1\n") e.text.items (λ n. event_lines n t.names.now events)
+  pub entries : at.state.entries ≡ e.moves
+  pub lines : Adds log_head e.text.items (λ n. event_lines n t.names.now events)
   pub sound : IsSound e.moves (bound_of e.store)
 
 -- what one ruling does, after so many moves, with so many processes in the queue and so many of them at its back

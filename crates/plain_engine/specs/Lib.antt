@@ -1,9 +1,11 @@
 pub mod Additions
+pub mod CalledItems
 pub mod Deciding
 pub mod EndTexts
 pub mod Engines
 pub mod Pairing
 pub mod Plain
+pub mod PlainForms
 pub mod Processes
 pub mod Shortcuts
 pub mod Sound

@@ -6,7 +6,7 @@ use Rattle.fcp_model.specs.declared.source.Item.{Item}
 use Rattle.fcp_model.specs.declared.source.Clause.{Clause}
 use Rattle.fcp_model.specs.declared.source.Module.{Module}
 use Rattle.fcp_model.specs.declared.source.GoalText.{GoalText}
-use Rattle.fcp_model.specs.FirstForm.{is_flat, are_flat, is_plain_call, are_plain_items, is_plain_clause, is_plain_module, is_plain_goal}
+use Rattle.plain_engine.specs.PlainForms.{is_flat, are_flat, is_plain_call, are_plain_items, is_plain_clause, is_plain_module, is_plain_goal}
 
 -- a module of strings and variables alone
 abbrev pub IsPlain : Module → Type 0

@@ -5,7 +5,7 @@ ghost use Rattle.fcp_model.specs.Translation.{term_of, goal_of, goals_of};
 ghost use Rattle.fcp_model.specs.Programs.{rename_goal};
 ghost use Rattle.fcp_model.specs.States.{processes_of};
 ghost use Rattle.fcp_model.specs.ProcedureNames.{procedure_names};
-ghost use Rattle.fcp_model.specs.FirstForm.{are_called, is_called};
+ghost use Rattle.plain_engine.specs.CalledItems.{are_called, is_called};
 ghost use Rattle.plain_engine.specs.Words.{variable_of, term_of_word};
 ghost use Rattle.plain_engine.specs.Plain.{IsFlat, AreFlat, IsPlainCall, ArePlainItems};
 ghost use Rattle.plain_engine.specs.Processes.{process_of, child_of};

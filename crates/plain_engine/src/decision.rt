@@ -2,15 +2,14 @@ ghost use Rattle.std.specs.Prelude.{ℕ, ◌≡◌, ◌<◌, ◌≤◌, ◌-◌,
 ghost use Rattle.fcp_model.specs.ProcedureNames.{procedure_names};
 ghost use Rattle.fcp_model.specs.Places.{inserted, places_among};
 ghost use Rattle.fcp_model.specs.Translation.{program_of, clause_of};
-ghost use Rattle.fcp_model.specs.Programs.{clauses_of};
 ghost use Rattle.plain_engine.specs.Words.{variable_of, bound_of};
 ghost use Rattle.plain_engine.specs.Sound.{IsSound, IsOld};
 ghost use Rattle.plain_engine.specs.Plain.{IsPlain};
-ghost use Rattle.plain_engine.specs.Deciding.{goal_with, DecidesAs, KeepsSound};
+ghost use Rattle.plain_engine.specs.Deciding.{goal_with, clauses_for, ArePositionsFor, DecidesAs, KeepsSound};
 
 use crate::pairing::Unified;
 use crate::trial::try_head;
-use crate::{Binding, Store, Trail, Variable, Word};
+use crate::{Binding, Process, Store, Trail, Variable, Word};
 use fcp_model::{Clause, Loaded, NoMemory, Place};
 use std::alloc::Global;
 
@@ -49,15 +48,28 @@ fn position_for(places: &[Place], place: Place) -> Option<usize>
     Some(places.len())
 }
 
-/// The clause by which a goal commits, numbered from 1 in its procedure.
-pub(crate) fn clause_numbered(loaded: &Loaded, procedure: u32, number: u32) -> &Clause
-    requires known { procedure < length (procedure_names loaded.now.clauses) }
+/// The positions, from 0, of the clauses for a call: none where the procedure has another number of arguments.
+fn positions_for<'a>(loaded: &'a Loaded, procedure: u32, args: &[Word]) -> &'a [u32]
+    requires { procedure < length (procedure_names loaded.now.clauses) }
+    ensures { ArePositionsFor loaded.now procedure args.now result.now }
+{
+    if loaded.name(procedure).arity as usize == args.len() {
+        loaded.clauses(procedure)
+    } else {
+        &[]
+    }
+}
+
+/// The clause by which a process commits, numbered from 1 in its procedure.
+pub(crate) fn clause_numbered<'a>(loaded: &'a Loaded, process: &Process, number: u32) -> &'a Clause
+    requires known { process.now.procedure < length (procedure_names loaded.now.clauses) }
     requires first { 1 ≤ number }
-    requires there { number ≤ length (clauses_of (program_of loaded.now) procedure) }
-    ensures clause { slice_get (clauses_of (program_of loaded.now) procedure) (number - 1) ≡ Some (clause_of (procedure_names loaded.now.clauses) result.now) }
+    requires there { number ≤ length (clauses_for loaded.now process.now.procedure process.now.args.items) }
+    ensures clause { slice_get (clauses_for loaded.now process.now.procedure process.now.args.items) (number - 1)
+        ≡ Some (clause_of (procedure_names loaded.now.clauses) result.now) }
     ensures in_text { (position : ℕ) × (slice_get loaded.now.clauses position ≡ Some result.now) }
 {
-    let positions = loaded.clauses(procedure);
+    let positions = positions_for(loaded, process.procedure, process.args.as_slice());
     clause_at(loaded, positions[number as usize - 1])
 }
 
@@ -105,16 +117,16 @@ pub fn decide(
         → IfOk result (KeepsSound n (program_of loaded.now) (bound_of store.now) (goal_with procedure args.now)) }
 {
     let mut trail = Trail::new(alloc);
-    let mut behind = true;
-    for (at, position) in loaded.clauses(procedure).iter().enumerate() {
+    let mut all_fail = true;
+    for (at, position) in positions_for(loaded, procedure, args).iter().enumerate() {
         match try_head(store, &mut trail, args, clause_at(loaded, *position))? {
             Unified::Done => return Ok(committed(at as u32 + 1, trail)),
             Unified::Clash => {}
-            Unified::Wait => behind = false,
+            Unified::Wait => all_fail = false,
         }
         trail.undo();
     }
-    if behind {
+    if all_fail {
         return Ok(Decision::Fail);
     }
     Ok(Decision::Hang {

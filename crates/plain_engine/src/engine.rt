@@ -12,11 +12,12 @@ ghost use Rattle.plain_engine.specs.Engines.{IsTask, IsReached, HasRoom, RuleGiv
 use crate::children::push_children;
 use crate::costs::clause_cells;
 use crate::decision::{Decision, clause_numbered, decide};
-use crate::lines::{push_commit, push_fail, push_hang};
+use crate::lines::push_commit;
 use crate::process::insert_waiting;
 use crate::settle::settle_bindings;
 use crate::wakes::wake;
 use crate::{Binding, Process, Store, Waiting};
+use fcp_model::log_lines::{push_fail_line, push_hang_line};
 use fcp_model::{GoalText, Limits, Loaded, Names, NoMemory, Place};
 use std::alloc::Global;
 use std::collections::VecDeque;
@@ -85,7 +86,7 @@ impl Engine {
     {
         let entry = self.moves + 1;
         settle_bindings(&mut self.store, entry, bindings)?;
-        let used = clause_numbered(task.loaded, process.procedure, clause);
+        let used = clause_numbered(task.loaded, process, clause);
         push_children(
             alloc,
             task.loaded,
@@ -121,7 +122,7 @@ impl Engine {
         ensures { OnOk result (Hangs self.old self.new process places.items cells) }
     {
         let entry = self.moves + 1;
-        push_hang(&mut self.text, entry, process.name, places.as_slice())?;
+        push_hang_line(&mut self.text, entry, process.name, places.as_slice())?;
         insert_waiting(&mut self.waiting, Waiting { process, places })?;
         self.passed = 0;
         self.moves = entry;
@@ -135,7 +136,7 @@ impl Engine {
         ensures { OnOk result (Fails self.old self.new process.now) }
     {
         let entry = self.moves + 1;
-        push_fail(&mut self.text, entry, process.name)?;
+        push_fail_line(&mut self.text, entry, process.name)?;
         self.moves = entry;
         Ok(())
     }
@@ -186,7 +187,8 @@ impl Engine {
         requires settles { Settles self.old.moves (program_of task.now.loaded.now) (bound_of self.old.store) (process_of process).goal clause (binds_of bindings.now) }
         ensures { IfOk result (RuleGives task.now self.old.moves (suc (length self.old.queue.items)) self.old.passed self.new) }
     {
-        let cells = clause_cells(clause_numbered(task.loaded, process.procedure, clause));
+        let used = clause_numbered(task.loaded, &process, clause);
+        let cells = clause_cells(used);
         if self.lacks(task, cells) {
             self.pass(process)?;
             return Ok(Ruled::Passes);

@@ -11,7 +11,6 @@ mod process;
 mod report;
 mod run;
 mod settle;
-mod spelling;
 mod starting;
 mod store;
 mod trail;

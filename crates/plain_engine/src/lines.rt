@@ -1,15 +1,16 @@
 ghost use Rattle.std.specs.Prelude.{◌≡◌, ◌++◌, ◌∷◌, [], ℕ, suc, OnOk};
 ghost use Rattle.fcp_model.specs.Spelling.{variable_text};
 ghost use Rattle.fcp_model.specs.TermText.{cut_text};
-ghost use Rattle.fcp_model.specs.LogText.{bindings_text, processes_text, places_text, woken_text};
+ghost use Rattle.fcp_model.specs.LogText.{bound_places_text};
 ghost use Rattle.fcp_model.specs.Ranks.{Ranked};
 ghost use Rattle.plain_engine.specs.Words.{variable_of, term_of_word, binds_of, bound_of};
-ghost use Rattle.plain_engine.specs.Additions.{Adds, AddsCommit, word_text, hang_line, fail_line};
+ghost use Rattle.plain_engine.specs.Additions.{Adds, AddsCommit, word_text};
 
-use crate::spelling::{push_bytes, push_number, push_place, push_process, push_string};
 use crate::value::deref;
 use crate::{Binding, Store, Trail, Variable, Word};
-use fcp_model::{Names, NoMemory, Place, Proc};
+use fcp_model::log_lines::push_woken;
+use fcp_model::spelling::{push_bytes, push_decimal, push_place, push_process, push_string};
+use fcp_model::{Names, NoMemory, Proc};
 use std::alloc::Global;
 
 /// A variable by its name.
@@ -20,7 +21,7 @@ fn push_variable(text: &mut Vec<u8>, variable: Variable) -> Result<(), NoMemory>
         Variable::Made(place) => push_place(text, place),
         Variable::Own(number) => {
             push_bytes(text, b"V")?;
-            push_number(text, u32::from(number))
+            push_decimal(text, u32::from(number))
         }
     }
 }
@@ -30,7 +31,7 @@ fn push_word(text: &mut Vec<u8>, names: &Names, word: Word) -> Result<(), NoMemo
     ensures { OnOk result (text.new.items ≡ text.old.items ++ word_text names.now word) }
 {
     match word {
-        Word::Text(sym) => push_string(text, names, sym),
+        Word::Text(sym) => push_string(text, names.text_or_empty(sym)),
         Word::Var(variable) => push_variable(text, variable),
         Word::ReadOnly(variable) => {
             push_variable(text, variable)?;
@@ -65,7 +66,7 @@ pub(crate) fn push_bindings(
     bindings: &[Binding],
 ) -> Result<(), NoMemory>
     requires { Ranked (bound_of store.now) }
-    ensures { OnOk result (Adds text.old.items text.new.items (λ n. bindings_text n names.now (bound_of store.now) entry (binds_of bindings.now))) }
+    ensures { OnOk result (Adds text.old.items text.new.items (λ n. bound_places_text n names.now (bound_of store.now) entry (binds_of bindings.now))) }
 {
     for binding in bindings {
         push_binding(alloc, text, names, store, entry, *binding)?;
@@ -83,7 +84,7 @@ fn push_binding(
     binding: Binding,
 ) -> Result<(), NoMemory>
     requires { Ranked (bound_of store.now) }
-    ensures { OnOk result (Adds text.old.items text.new.items (λ n. bindings_text n names.now (bound_of store.now) entry (binds_of (binding ∷ [])))) }
+    ensures { OnOk result (Adds text.old.items text.new.items (λ n. bound_places_text n names.now (bound_of store.now) entry (binds_of (binding ∷ [])))) }
 {
     match binding.variable {
         Variable::Own(_) => Ok(()),
@@ -94,39 +95,6 @@ fn push_binding(
             push_value(alloc, text, names, store, binding.word.settled(entry))
         }
     }
-}
-
-/// Names of processes, each behind a space.
-pub(crate) fn push_processes(text: &mut Vec<u8>, processes: &[Proc]) -> Result<(), NoMemory>
-    ensures { OnOk result (text.new.items ≡ text.old.items ++ processes_text processes.now) }
-{
-    for process in processes {
-        push_bytes(text, b" ")?;
-        push_process(text, *process)?;
-    }
-    Ok(())
-}
-
-/// ` wakes` and the names of the woken processes, where there are any.
-pub(crate) fn push_woken(text: &mut Vec<u8>, woken: &[Proc]) -> Result<(), NoMemory>
-    ensures { OnOk result (text.new.items ≡ text.old.items ++ woken_text woken.now) }
-{
-    if woken.is_empty() {
-        return Ok(());
-    }
-    push_bytes(text, b" wakes")?;
-    push_processes(text, woken)
-}
-
-/// Names of places, each behind a space.
-pub(crate) fn push_places(text: &mut Vec<u8>, places: &[Place]) -> Result<(), NoMemory>
-    ensures { OnOk result (text.new.items ≡ text.old.items ++ places_text places.now) }
-{
-    for place in places {
-        push_bytes(text, b" ")?;
-        push_place(text, *place)?;
-    }
-    Ok(())
 }
 
 /// `N commit #a.b C`, the bindings and the woken processes.
@@ -144,38 +112,12 @@ pub(crate) fn push_commit(
     requires { Ranked (bound_of store.now) }
     ensures { OnOk result (AddsCommit text.old.items text.new.items names.now (bound_of store.now) entry process clause (binds_of bindings.now) woken.now) }
 {
-    push_number(text, entry)?;
+    push_decimal(text, entry)?;
     push_bytes(text, b" commit ")?;
     push_process(text, process)?;
     push_bytes(text, b" ")?;
-    push_number(text, clause)?;
+    push_decimal(text, clause)?;
     push_bindings(alloc, text, names, store, entry, bindings)?;
     push_woken(text, woken)?;
-    push_bytes(text, b"\n")
-}
-
-/// `N hang #a.b` and the waiting set.
-pub(crate) fn push_hang(
-    text: &mut Vec<u8>,
-    entry: u32,
-    process: Proc,
-    places: &[Place],
-) -> Result<(), NoMemory>
-    ensures { OnOk result (text.new.items ≡ text.old.items ++ hang_line entry process places.now) }
-{
-    push_number(text, entry)?;
-    push_bytes(text, b" hang ")?;
-    push_process(text, process)?;
-    push_places(text, places)?;
-    push_bytes(text, b"\n")
-}
-
-/// `N fail #a.b`.
-pub(crate) fn push_fail(text: &mut Vec<u8>, entry: u32, process: Proc) -> Result<(), NoMemory>
-    ensures { OnOk result (text.new.items ≡ text.old.items ++ fail_line entry process) }
-{
-    push_number(text, entry)?;
-    push_bytes(text, b" fail ")?;
-    push_process(text, process)?;
     push_bytes(text, b"\n")
 }

@@ -2,19 +2,22 @@ ghost use Rattle.std.specs.Prelude.{◌≡◌, ◌≤◌, ◌++◌, [], length, 
 ghost use Rattle.fcp_model.specs.Ranks.{Ranked};
 ghost use Rattle.fcp_model.specs.OneWorker.{Schedule};
 ghost use Rattle.fcp_laws.specs.Endings.{outcome_at};
-ghost use Rattle.fcp_model.specs.ReportText.{outcome_word, variable_line, variable_lines};
-ghost use Rattle.fcp_model.specs.Reports.{IsOneWorkerReport};
+ghost use Rattle.fcp_model.specs.ReportText.{goal_variables, variable_line, variable_lines};
 ghost use Rattle.fcp_model.specs.Spelling.{name_at};
+ghost use Rattle.fcp_model.specs.Places.{placed};
+ghost use Rattle.fcp_model.specs.Terms.{var};
+ghost use Rattle.fcp_model.specs.Reports.{IsOneWorkerReport};
 ghost use Rattle.fcp_model.specs.Translation.{program_of, start_of};
 ghost use Rattle.plain_engine.specs.Additions.{Adds};
-ghost use Rattle.plain_engine.specs.EndTexts.{end_lines, AddsEnd};
+ghost use Rattle.plain_engine.specs.EndTexts.{AddsEnd};
 ghost use Rattle.plain_engine.specs.Engines.{IsTask, ScheduledAt, HasEnded, HasFailed};
 ghost use Rattle.plain_engine.specs.Words.{bound_of};
 
 use crate::engine::{Engine, Task};
 use crate::lines::push_value;
-use crate::spelling::{push_bytes, push_number};
 use crate::{Store, Variable, Word};
+use fcp_model::log_lines::{push_end_line, push_outcome_line};
+use fcp_model::spelling::push_bytes;
 use fcp_model::{Limits, Names, NoMemory, Outcome, Place, Sym};
 use std::alloc::Global;
 
@@ -31,7 +34,8 @@ pub struct Report {
 pub(crate) fn report_end(alloc: Global, task: &Task, engine: Engine) -> Result<Report, NoMemory>
     requires task { IsTask task.now }
     requires ended { HasEnded task.now engine }
-    ensures { IfOk result (λ r. IsOneWorkerReport (program_of task.now.loaded.now) (start_of task.now.loaded.now task.now.goal.now) task.now.limits [] task.now.names.now task.now.goal.now.names r.outcome r.text.items) }
+    ensures { IfOk result (λ r. IsOneWorkerReport (program_of task.now.loaded.now) (start_of task.now.loaded.now task.now.goal.now) task.now.limits [] task.now.names.now
+        (goal_variables task.now.goal.now.names) r.outcome r.text.items) }
 {
     let outcome = outcome_of(task.limits, &engine);
     close(alloc, task, engine, outcome)
@@ -41,7 +45,8 @@ pub(crate) fn report_end(alloc: Global, task: &Task, engine: Engine) -> Result<R
 pub(crate) fn report_fail(alloc: Global, task: &Task, engine: Engine) -> Result<Report, NoMemory>
     requires task { IsTask task.now }
     requires failed { HasFailed task.now engine }
-    ensures { IfOk result (λ r. IsOneWorkerReport (program_of task.now.loaded.now) (start_of task.now.loaded.now task.now.goal.now) task.now.limits [] task.now.names.now task.now.goal.now.names r.outcome r.text.items) }
+    ensures { IfOk result (λ r. IsOneWorkerReport (program_of task.now.loaded.now) (start_of task.now.loaded.now task.now.goal.now) task.now.limits [] task.now.names.now
+        (goal_variables task.now.goal.now.names) r.outcome r.text.items) }
 {
     close(alloc, task, engine, Outcome::Failed)
 }
@@ -63,7 +68,7 @@ fn outcome_of(limits: Limits, engine: &Engine) -> Outcome
     }
 }
 
-/// Puts the end of the report behind the lines of the log.
+/// Puts the end of the report after the lines of the log.
 fn close(alloc: Global, task: &Task, engine: Engine, outcome: Outcome) -> Result<Report, NoMemory>
     requires ranked { Ranked (bound_of engine.store) }
     requires few { length task.now.goal.now.names ≤ 250 }
@@ -76,7 +81,8 @@ fn close(alloc: Global, task: &Task, engine: Engine, outcome: Outcome) -> Result
         moves,
         ..
     } = engine;
-    push_end_lines(&mut text, moves, outcome)?;
+    push_end_line(&mut text, moves)?;
+    push_outcome_line(&mut text, outcome)?;
     push_variable_lines(
         alloc,
         &mut text,
@@ -85,33 +91,6 @@ fn close(alloc: Global, task: &Task, engine: Engine, outcome: Outcome) -> Result
         task.goal.names.as_slice(),
     )?;
     Ok(Report { outcome, text })
-}
-
-/// `end N`, with the number of the log's entries, and `outcome WORD`.
-fn push_end_lines(text: &mut Vec<u8>, moves: u32, outcome: Outcome) -> Result<(), NoMemory>
-    ensures { OnOk result (text.new.items ≡ text.old.items ++ end_lines moves outcome) }
-{
-    push_bytes(text, b"end ")?;
-    push_number(text, moves)?;
-    push_bytes(text, b"\n")?;
-    push_bytes(text, b"outcome ")?;
-    push_outcome(text, outcome)?;
-    push_bytes(text, b"\n")
-}
-
-/// The word of an outcome.
-fn push_outcome(text: &mut Vec<u8>, outcome: Outcome) -> Result<(), NoMemory>
-    ensures { OnOk result (text.new.items ≡ text.old.items ++ outcome_word outcome) }
-{
-    match outcome {
-        Outcome::Failed => push_bytes(text, b"failed"),
-        Outcome::Aborted => push_bytes(text, b"aborted"),
-        Outcome::Held => push_bytes(text, b"held"),
-        Outcome::Terminated => push_bytes(text, b"terminated"),
-        Outcome::Suspended => push_bytes(text, b"suspended"),
-        Outcome::Budget => push_bytes(text, b"budget"),
-        Outcome::Full => push_bytes(text, b"full"),
-    }
 }
 
 /// A line for each of the goal's variables that has a name, in their order.
@@ -124,7 +103,7 @@ fn push_variable_lines(
 ) -> Result<(), NoMemory>
     requires ranked { Ranked (bound_of store.now) }
     requires few { length variables.now ≤ 250 }
-    ensures { OnOk result (Adds text.old.items text.new.items (λ n. variable_lines n names.now (bound_of store.now) 1 variables.now)) }
+    ensures { OnOk result (Adds text.old.items text.new.items (λ n. variable_lines n names.now (bound_of store.now) (goal_variables variables.now))) }
 {
     for (at, name) in variables.iter().enumerate() {
         push_variable_line(alloc, text, names, store, at as u32 + 1, *name)?;
@@ -142,7 +121,7 @@ fn push_variable_line(
     name: Option<Sym>,
 ) -> Result<(), NoMemory>
     requires { Ranked (bound_of store.now) }
-    ensures { OnOk result (Adds text.old.items text.new.items (λ n. variable_line n names.now (bound_of store.now) number name)) }
+    ensures { OnOk result (Adds text.old.items text.new.items (λ n. variable_line n names.now (bound_of store.now) name (var (placed 0 number)))) }
 {
     let Some(name) = name else {
         return Ok(());
@@ -154,9 +133,9 @@ fn push_variable_line(
     push_bytes(text, b"\n")
 }
 
-/// The bytes of a name. A number that the list lacks has none.
+/// The string of a number, without quotes. A number that the list lacks has the empty one.
 fn push_name(text: &mut Vec<u8>, names: &Names, name: Sym) -> Result<(), NoMemory>
     ensures { OnOk result (text.new.items ≡ text.old.items ++ name_at names.now name.0) }
 {
-    push_bytes(text, names.get(name).unwrap_or("").as_bytes())
+    push_bytes(text, names.text_or_empty(name).as_bytes())
 }

@@ -1,7 +1,8 @@
 ghost use Rattle.std.specs.Prelude.{◌≡◌, [], true, IfOk};
-ghost use Rattle.fcp_model.specs.FirstForm.{bodies_called, goal_called};
+ghost use Rattle.plain_engine.specs.CalledItems.{bodies_called, goal_called};
 ghost use Rattle.fcp_model.specs.Translation.{program_of, start_of};
 ghost use Rattle.fcp_model.specs.Reports.{IsOneWorkerReport};
+ghost use Rattle.fcp_model.specs.ReportText.{goal_variables};
 ghost use Rattle.plain_engine.specs.Plain.{IsPlain, IsPlainGoal};
 
 use crate::Report;
@@ -24,7 +25,8 @@ pub fn run_goal(
     requires plain_goal { IsPlainGoal goal.now }
     requires called { bodies_called loaded.now ≡ true }
     requires goal_called { goal_called loaded.now goal.now ≡ true }
-    ensures { IfOk result (λ r. IsOneWorkerReport (program_of loaded.now) (start_of loaded.now goal.now) limits [] names.now goal.now.names r.outcome r.text.items) }
+    ensures { IfOk result (λ r. IsOneWorkerReport (program_of loaded.now) (start_of loaded.now goal.now) limits [] names.now (goal_variables goal.now.names)
+        r.outcome r.text.items) }
 {
     let task = Task {
         names,

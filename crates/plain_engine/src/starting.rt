@@ -4,8 +4,8 @@ ghost use Rattle.plain_engine.specs.Engines.{IsTask, IsReached};
 use crate::Store;
 use crate::children::push_children;
 use crate::engine::{Engine, Task};
-use crate::spelling::push_bytes;
 use fcp_model::NoMemory;
+use fcp_model::spelling::push_bytes;
 use std::alloc::Global;
 use std::collections::VecDeque;
 

@@ -1,6 +1,6 @@
 use Rattle.plain_engine.specs.Plain.{ArePlainItems}
 use Rattle.fcp_model.specs.ProcedureNames.{procedure_names}
-use Rattle.fcp_model.specs.FirstForm.{are_called}
+use Rattle.plain_engine.specs.CalledItems.{are_called}
 use Rattle.std.proofs.Common.{subst, sym, ◌≡◌, true}
 use Rattle.plain_engine.proofs.Clauses.{plain_at}
 use Rattle.plain_engine.proofs.NumberedClauses.{body_called, body_plain}

@@ -1,11 +1,10 @@
 use Rattle.std.proofs.Common.{All, [], ◌∷◌, sym, ◌∙◌, refl, subst}
-use Rattle.fcp_model.specs.Translation.{program_of, start_of}
+use Rattle.fcp_model.specs.Translation.{program_of}
 use Rattle.plain_engine.specs.Words.{binds_of, bound_of}
 use Rattle.plain_engine.specs.Sound.{IsOld}
 use Rattle.plain_engine.specs.Deciding.{goal_with, Settles, DecidesAs, KeepsSound}
 use Rattle.plain_engine.specs.Processes.{process_of}
 use Rattle.plain_engine.specs.Engines.{IsReached}
-use Rattle.plain_engine.proofs.Counting.{events_counted}
 use Rattle.plain_engine.proofs.Reaching.{old_front, fail_reached}
 use Rattle.plain_engine.proofs.Ruling.{ended_here, popped, room_here, words_old}
 use Rattle.plain_engine.proofs.engine.Engine.rule.Goals as goal
@@ -37,4 +36,3 @@ returns-in_ok-fail-in-Fail c =
     let decided = subst (DecidesAs (program_of c.args.task.now.loaded.now) (bound_of c.args.self.now.store) (goal_with c.in-Some.process.procedure c.in-Some.process.args.items)) c.in-Fail.is
     (subst (λ ws. DecidesAs (program_of c.args.task.now.loaded.now) (bound_of c.args.self.now.store) (goal_with c.in-Some.process.procedure ws) c.in_ok-clause.field-0) c.as_slice.ensures.value c.in_ok-clause.ensures.decided) in
     fail_reached c.args.task.now c.in-Some.process (record c.args.self.now { queue = c.pop_front.new.self }) r c.fail.new.self c.in_ok-fail-in-Fail.ensures room decided.0 decided.1
-    (events_counted (program_of c.args.task.now.loaded.now) c.args.task.now.limits (start_of c.args.task.now.loaded.now c.args.task.now.goal.now) r.events r.at r.leads)
