@@ -1,4 +1,4 @@
-//! Laws of decisions: where bindings have no cycle, each goal has one. Each function does nothing: its contract is the law.
+//! Laws of decisions: where bindings have no cycle, each goal has one. The function does nothing: its contract is the laws.
 #![tactic(auto)]
 
 ghost use Rattle.decision_laws.specs.Laws.{AGoalHasADecision, LawfulStatesDecide};

@@ -28,23 +28,29 @@ use Rattle.fcp_laws.proofs.SoundSchedules.{begin_sound, leads_sound, none_ready,
 use Rattle.fcp_laws.proofs.ScheduleCounts.{IsLarge, PassedAreLarge, leads_counts, begin_large, leads_large}
 
 -- all processes are finished just where none is Ready and none waits
-finished_if_neither : (ps : List Process) → list_all (λ p. is_finished p.status) ps ≡ not (list_any (λ p. is_ready p.status) ps || list_any (λ p. is_waiting p.status) ps)
+finished_if_neither : (ps : List Process)
+    → list_all (λ p. is_finished p.status) ps ≡ not (list_any (λ p. is_ready p.status) ps || list_any (λ p. is_waiting p.status) ps)
 finished_if_neither [] = refl
 finished_if_neither (p ∷ ps) = go p.status (finished_if_neither ps)
   where
-    go : (st : Status) → list_all (λ p. is_finished p.status) ps ≡ not (list_any (λ p. is_ready p.status) ps || list_any (λ p. is_waiting p.status) ps) →
-        (is_finished st && list_all (λ p. is_finished p.status) ps) ≡ not ((is_ready st || list_any (λ p. is_ready p.status) ps) || (is_waiting st || list_any (λ p. is_waiting p.status) ps))
+    go : (st : Status)
+        → list_all (λ p. is_finished p.status) ps ≡ not (list_any (λ p. is_ready p.status) ps || list_any (λ p. is_waiting p.status) ps) →
+        (is_finished st && list_all (λ p. is_finished p.status) ps)
+        ≡ not ((is_ready st || list_any (λ p. is_ready p.status) ps) || (is_waiting st || list_any (λ p. is_waiting p.status) ps))
     go ready e = refl
     go (waiting vs) e = ap not (sym (or-true (list_any (λ p. is_ready p.status) ps)))
     go finished e = e
 
 -- a Ready process that is found is one
-ready_found : (ps : List Process) (n : Proc) (p : Process) → process_named ps n ≡ Some p → p.status ≡ ready → list_any (λ q. is_ready q.status) ps ≡ true
+ready_found : (ps : List Process) (n : Proc) (p : Process) → process_named ps n ≡ Some p → p.status ≡ ready
+    → list_any (λ q. is_ready q.status) ps ≡ true
 ready_found [] n p e s = cc
 ready_found (q ∷ ps) n p e s = go (is_same_process q.name n) (ready_found ps n p) e
   where
-    go : (b : Bool) → (process_named ps n ≡ Some p → p.status ≡ ready → list_any (λ x. is_ready x.status) ps ≡ true) → picked b q (process_named ps n) ≡ Some p → (is_ready q.status || list_any (λ x. is_ready x.status) ps) ≡ true
-    go true rec i = let same : q ≡ p = cc in ap (λ b. b || list_any (λ x. is_ready x.status) ps) (ap (λ (x : Process). is_ready x.status) same ∙ ap is_ready s)
+    go : (b : Bool) → (process_named ps n ≡ Some p → p.status ≡ ready → list_any (λ x. is_ready x.status) ps ≡ true)
+        → picked b q (process_named ps n) ≡ Some p → (is_ready q.status || list_any (λ x. is_ready x.status) ps) ≡ true
+    go true rec i = let same : q ≡ p = cc in ap (λ b. b || list_any (λ x. is_ready x.status) ps)
+        (ap (λ (x : Process). is_ready x.status) same ∙ ap is_ready s)
     go false rec i = rw (rec i s) (or-true (is_ready q.status))
 
 -- where it was said of an open run that it ends
@@ -65,15 +71,23 @@ module _ (n : ℕ) (m : Program) (limits : Limits) (at : Schedule) where
         ]
       ] ≡ Some ends
 
-      go : (b : Bool) → is_due at.controls at.moves ≡ b → elim b [ true ↦ Some (control_ruling at at.controls) | _ ↦ queue_ruling n m limits at at.queue ] ≡ Some ends → queue_ruling n m limits at at.queue ≡ Some ends
+      go : (b : Bool) → is_due at.controls at.moves ≡ b
+          → elim b [ true ↦ Some (control_ruling at at.controls) | _ ↦ queue_ruling n m limits at at.queue ] ≡ Some ends
+          → queue_ruling n m limits at at.queue ≡ Some ends
       go true d f = absurd (control_goes_on at.controls d f)
       go false d f = f
 
-  front_goes_on : (p : Process) (rest : List Process) (o : Option Decision) → option_map (λ d. front_ruling limits at p rest (event_of m at.state p d)) o ≡ Some ends → ⊥
+  front_goes_on : (p : Process) (rest : List Process) (o : Option Decision)
+      → option_map (λ d. front_ruling limits at p rest (event_of m at.state p d)) o ≡ Some ends → ⊥
   front_goes_on p rest None e = cc
   front_goes_on p rest (Some d) e = go (ltb limits.cells (at.cells + (event_of m at.state p d).cells)) e
     where
-      go : (b : Bool) → Some (elim b [ true ↦ passes (record at { queue = rest ++ p ∷ []; passed = at.passed + 1 }) | _ ↦ makes (event_of m at.state p d) (after_event at rest (event_of m at.state p d)) ]) ≡ Some ends → ⊥
+      go : (b : Bool)
+          → Some (elim b [
+            | true ↦ passes (record at { queue = rest ++ p ∷ []; passed = at.passed + 1 })
+            | _ ↦ makes (event_of m at.state p d) (after_event at rest (event_of m at.state p d))
+          ]) ≡ Some ends
+          → ⊥
       go true f = cc
       go false f = cc
 
@@ -81,15 +95,22 @@ module _ (n : ℕ) (m : Program) (limits : Limits) (at : Schedule) where
   abbrev at_limit : Bool
   at_limit = leb limits.commits at.commits || leb limits.moves at.moves
 
-  by_limit : (p : Process) (rest : List Process) → queue_ruling n m limits at (p ∷ rest) ≡ Some ends → (at_limit || leb (length at.queue) at.passed) ≡ true
+  by_limit : (p : Process) (rest : List Process) → queue_ruling n m limits at (p ∷ rest) ≡ Some ends
+      → (at_limit || leb (length at.queue) at.passed) ≡ true
   by_limit p rest e = go (at_limit || leb (length at.queue) at.passed) e
     where
-      go : (b : Bool) → elim b [ true ↦ Some ends | _ ↦ option_map (λ d. front_ruling limits at p rest (event_of m at.state p d)) (decide n m at.state.bound p.goal) ] ≡ Some ends → b ≡ true
+      go : (b : Bool)
+          → elim b [
+            | true ↦ Some ends
+            | _ ↦ option_map (λ d. front_ruling limits at p rest (event_of m at.state p d)) (decide n m at.state.bound p.goal)
+          ] ≡ Some ends
+          → b ≡ true
       go true f = refl
       go false f = absurd (front_goes_on p rest (decide n m at.state.bound p.goal) f)
 
 -- with all processes of the queue at the back
-all_passed : (front back queue : List Process) (passed : ℕ) → queue ≡ front ++ back → passed ≡ length back → length queue ≤ passed → queue ≡ back
+all_passed : (front back queue : List Process) (passed : ℕ) → queue ≡ front ++ back → passed ≡ length back → length queue ≤ passed
+    → queue ≡ back
 all_passed [] back queue passed e f l = e
 all_passed (p ∷ front) back queue passed e f l = absurd (omega (arith, ap length e, length-append front back))
 
@@ -107,8 +128,11 @@ module _ (m : Program) (limits : Limits) (at : Schedule) (sound : IsSoundSchedul
       same : at.queue ≡ large.back
       same = all_passed large.front large.back at.queue at.passed large.queued large.passed l
 
-      one : (p : Process) → process_named at.state.processes p.name ≡ Some p → (st : Status) → p.status ≡ st → IsTooLarge m at.state left p st
-      one p e ready s = each_found (IsLarge m at.state.bound left) large.back p.name p large.large (sym (ap (λ ps. process_named ps p.name) same) ∙ sound.are_queued o p.name p e s)
+      one : (p : Process) → process_named at.state.processes p.name ≡ Some p → (st : Status) → p.status ≡ st
+          → IsTooLarge m at.state left p st
+      one p e ready s =
+          each_found (IsLarge m at.state.bound left) large.back p.name p large.large
+          (sym (ap (λ ps. process_named ps p.name) same) ∙ sound.are_queued o p.name p e s)
       one p e (waiting vs) s = tt
       one p e finished s = tt
 
@@ -117,29 +141,45 @@ module _ (m : Program) (limits : Limits) (at : Schedule) (sound : IsSoundSchedul
       go (p ∷ ps) e = (one p e.0 p.status refl, go ps e.1)
 
   -- an empty queue
-  fits_empty : list_any (λ p. is_ready p.status) at.state.processes ≡ false → (w : Bool) → list_any (λ p. is_waiting p.status) at.state.processes ≡ w → FitsOpen (cond w Suspended Terminated)
-  fits_empty r true w = let f = finished_if_neither at.state.processes ∙ ap not (ap (λ b. b || list_any (λ p. is_waiting p.status) at.state.processes) r ∙ w) in rw (f, r) refl
-  fits_empty r false w = let f = finished_if_neither at.state.processes ∙ ap not (ap (λ b. b || list_any (λ p. is_waiting p.status) at.state.processes) r ∙ w) in rw f refl
+  fits_empty : list_any (λ p. is_ready p.status) at.state.processes ≡ false → (w : Bool)
+      → list_any (λ p. is_waiting p.status) at.state.processes ≡ w → FitsOpen (cond w Suspended Terminated)
+  fits_empty r true w =
+      let f = finished_if_neither at.state.processes
+      ∙ ap not (ap (λ b. b || list_any (λ p. is_waiting p.status) at.state.processes) r ∙ w) in
+      rw (f, r) refl
+  fits_empty r false w =
+      let f = finished_if_neither at.state.processes
+      ∙ ap not (ap (λ b. b || list_any (λ p. is_waiting p.status) at.state.processes) r ∙ w) in
+      rw f refl
 
   -- a queue with a process
   fits_front : is_over at.state.mode ≡ false → list_any (λ p. is_ready p.status) at.state.processes ≡ true →
-      (b : Bool) → (leb limits.commits at.commits || leb limits.moves at.moves) ≡ b → (b || leb (length at.queue) at.passed) ≡ true → FitsOpen (cond b Budget Full)
-  fits_front o r b l e = let f = finished_if_neither at.state.processes ∙ ap (λ x. not (x || list_any (λ p. is_waiting p.status) at.state.processes)) r in rw (f, r, l) (go b e)
+      (b : Bool) → (leb limits.commits at.commits || leb limits.moves at.moves) ≡ b → (b || leb (length at.queue) at.passed) ≡ true
+      → FitsOpen (cond b Budget Full)
+  fits_front o r b l e =
+      let f = finished_if_neither at.state.processes ∙ ap (λ x. not (x || list_any (λ p. is_waiting p.status) at.state.processes)) r in
+      rw (f, r, l) (go b e)
     where
-      go : (b : Bool) → (b || leb (length at.queue) at.passed) ≡ true → MatchBool b (cond b Budget Full ≡ Budget) ((cond b Budget Full ≡ Full) × AllTooLarge m at.state left at.state.processes)
+      go : (b : Bool) → (b || leb (length at.queue) at.passed) ≡ true
+          → MatchBool b (cond b Budget Full ≡ Budget) ((cond b Budget Full ≡ Full) × AllTooLarge m at.state left at.state.processes)
       go true i = refl
       go false i = (refl, all_too_large o (leb-true _ _ i))
 
-  fits_queue : (n : ℕ) → at.state.mode ≡ is_open → (q : List Process) → at.queue ≡ q → queue_ruling n m limits at q ≡ Some ends → FitsOpen (open_outcome limits at)
+  fits_queue : (n : ℕ) → at.state.mode ≡ is_open → (q : List Process) → at.queue ≡ q → queue_ruling n m limits at q ≡ Some ends
+      → FitsOpen (open_outcome limits at)
   fits_queue n o [] q e = rw q (fits_empty (none_ready at sound (ap is_over o) q) _ refl)
   fits_queue n o (p ∷ rest) q e =
       let f = front_is_ready at sound p rest q in
       let last = by_limit n m limits at p rest e in
-      subst (λ ps. FitsOpen (elim ps [ [] ↦ cond (list_any (λ p. is_waiting p.status) at.state.processes) Suspended Terminated | p ∷ rest ↦ cond (leb limits.commits at.commits || leb limits.moves at.moves) Budget Full ])) (sym q)
+      subst (λ ps. FitsOpen (elim ps [
+        | [] ↦ cond (list_any (λ p. is_waiting p.status) at.state.processes) Suspended Terminated
+        | p ∷ rest ↦ cond (leb limits.commits at.commits || leb limits.moves at.moves) Budget Full
+      ])) (sym q)
       (fits_front (ap is_over o) (ready_found at.state.processes p.name p f.0 f.1) _ refl last)
 
   -- where a run ends, its outcome is that of its state and its counts
-  pub fits_where_ended : (n : ℕ) → ruling n m limits at ≡ Some ends → EndsAt m at.state limits at.commits at.moves at.cells (outcome_at limits at)
+  pub fits_where_ended : (n : ℕ) → ruling n m limits at ≡ Some ends
+      → EndsAt m at.state limits at.commits at.moves at.cells (outcome_at limits at)
   fits_where_ended n e = go at.state.mode refl
     where
       go : (mode : Mode) → at.state.mode ≡ mode → EndsAt m at.state limits at.commits at.moves at.cells (outcome_at limits at)
@@ -149,10 +189,12 @@ module _ (m : Program) (limits : Limits) (at : Schedule) (sound : IsSoundSchedul
       go is_open o = rw o (fits_queue n o at.queue refl (by_queue n m limits at o e))
 
 -- the outcome of a run of one worker is that of its last state, its commits, its moves and its cells
-pub ends_so : (m : Program) (limits : Limits) (s : State) (cs : List Control) (evs : List Event) (at : Schedule) → IsOrdered s → s.mode ≡ is_open → IsOneWorkerRun m limits s cs evs at → Ends m limits s evs (outcome_at limits at)
+pub ends_so : (m : Program) (limits : Limits) (s : State) (cs : List Control) (evs : List Event) (at : Schedule) → IsOrdered s
+    → s.mode ≡ is_open → IsOneWorkerRun m limits s cs evs at → Ends m limits s evs (outcome_at limits at)
 ends_so m limits s cs evs at ordered opened run =
     let h = leads_counts m limits s cs evs at run.leads in
-    let fits = fits_where_ended m limits at (leads_sound m limits (begin s cs) evs at (begin_sound s cs ordered) run.leads) (leads_large m limits (begin s cs) evs at (begin_large m limits s cs) run.leads) run.steps run.ended in
+    let fits = fits_where_ended m limits at (leads_sound m limits (begin s cs) evs at (begin_sound s cs ordered) run.leads)
+    (leads_large m limits (begin s cs) evs at (begin_large m limits s cs) run.leads) run.steps run.ended in
     subst (λ t. EndsAt m t limits (commits_in (entries_of evs)) (moves_in (entries_of evs)) (cells_of evs) (outcome_at limits at)) h.state
     (subst (λ k. EndsAt m at.state limits k (moves_in (entries_of evs)) (cells_of evs) (outcome_at limits at)) h.commits
     (subst (λ k. EndsAt m at.state limits at.commits k (cells_of evs) (outcome_at limits at)) h.moves

@@ -13,8 +13,10 @@ use Rattle.fcp_model.specs.Reports.{IsRunReport, IsOneWorkerReport}
 use Rattle.fcp_laws.proofs.LawfulRuns.{is_lawful_run}
 
 -- the run is lawful, and of the controls those were made that are not left
-pub is_run_report : (m : Program) (s : State) (limits : Limits) (controls : List Control) (names : List Bytes) (variables : List NamedTerm) (o : Outcome) (bytes : Bytes)
-    → IsOrdered s → s.mode ≡ is_open → AreLawful controls → IsOneWorkerReport m s limits controls names variables o bytes → IsRunReport m s limits controls names variables o bytes
+pub is_run_report : (m : Program) (s : State) (limits : Limits) (controls : List Control)
+    (names : List Bytes) (variables : List NamedTerm) (o : Outcome) (bytes : Bytes)
+    → IsOrdered s → s.mode ≡ is_open → AreLawful controls → IsOneWorkerReport m s limits controls names variables o bytes
+    → IsRunReport m s limits controls names variables o bytes
 is_run_report m s limits controls names variables o bytes ordered opened lawful report =
     let run = is_lawful_run m limits s controls report.events report.last ordered opened lawful report.run in
     record {

@@ -27,10 +27,13 @@ use Rattle.fcp_laws.specs.Laws.{IsLawfulRun}
 use Rattle.fcp_laws.proofs.LawfulSchedules.{has_failed, IsAhead, IsLawfulSchedule, next_allowed, control_lawful, pass_lawful, move_lawful, begin_lawful, leads_lawful, not_due_yet}
 
 -- each entry is legal
-replayed : (n : ℕ) (m : Program) (s : State) (ev : Event) (evs : List Event) → next n m s ev.entry ≡ Some ev → replay n m ev.after (entries_of evs) ≡ Some evs → replay n m s (ev.entry ∷ entries_of evs) ≡ Some (ev ∷ evs)
-replayed n m s ev evs e f = ap (option_and_then (λ x. option_map (λ xs. x ∷ xs) (replay n m x.after (entries_of evs)))) e ∙ ap (option_map (λ xs. ev ∷ xs)) f
+replayed : (n : ℕ) (m : Program) (s : State) (ev : Event) (evs : List Event) → next n m s ev.entry ≡ Some ev
+    → replay n m ev.after (entries_of evs) ≡ Some evs → replay n m s (ev.entry ∷ entries_of evs) ≡ Some (ev ∷ evs)
+replayed n m s ev evs e f =
+    ap (option_and_then (λ x. option_map (λ xs. x ∷ xs) (replay n m x.after (entries_of evs)))) e ∙ ap (option_map (λ xs. ev ∷ xs)) f
 
-control_legal : (n : ℕ) (m : Program) (s : State) (a : Act) → is_allowed a s.mode ≡ true → next n m s (act_entry a) ≡ Some (control_event s (act_entry a) (mode_after a s.mode))
+control_legal : (n : ℕ) (m : Program) (s : State) (a : Act) → is_allowed a s.mode ≡ true
+    → next n m s (act_entry a) ≡ Some (control_event s (act_entry a) (mode_after a s.mode))
 control_legal n m s act.Snapshot h = ap (λ b. cond b (Some (control_event s Snapshot s.mode)) None) h
 control_legal n m s act.Suspend h = ap (λ b. cond b (Some (control_event s Suspend is_held)) None) h
 control_legal n m s act.Resume h = ap (λ b. cond b (Some (control_event s Resume is_open)) None) h
@@ -41,16 +44,19 @@ same_move m s p (commits k bs rs) = and_from _ _ (same_itself p.name) (eq-eqb k 
 same_move m s p (waits_on rs) = same_itself p.name
 same_move m s p (decides_fail rs) = same_itself p.name
 
-moved : (n : ℕ) (m : Program) (s : State) (p : Process) (d : Decision) → s.mode ≡ is_open → process_named s.processes p.name ≡ Some p → p.status ≡ ready → decide n m s.bound p.goal ≡ Some d → move n m s p.name ≡ Some (event_of m s p d)
+moved : (n : ℕ) (m : Program) (s : State) (p : Process) (d : Decision) → s.mode ≡ is_open → process_named s.processes p.name ≡ Some p
+    → p.status ≡ ready → decide n m s.bound p.goal ≡ Some d → move n m s p.name ≡ Some (event_of m s p d)
 moved n m s p d o e r f =
     ap (move_on n m s) e
     ∙ (ap (λ b. cond b (option_map (event_of m s p) (decide n m s.bound p.goal)) None) (and_from _ _ (ap is_running o) (ap is_ready r))
     ∙ ap (option_map (event_of m s p)) f)
 
-agreed_itself : (m : Program) (s : State) (p : Process) (d : Decision) (o : Option Event) → o ≡ Some (event_of m s p d) → agreed (event_of m s p d).entry o ≡ Some (event_of m s p d)
+agreed_itself : (m : Program) (s : State) (p : Process) (d : Decision) (o : Option Event) → o ≡ Some (event_of m s p d)
+    → agreed (event_of m s p d).entry o ≡ Some (event_of m s p d)
 agreed_itself m s p d o e = ap (agreed (event_of m s p d).entry) e ∙ ap (λ b. cond b (Some (event_of m s p d)) None) (same_move m s p d)
 
-move_legal : (n : ℕ) (m : Program) (s : State) (p : Process) (d : Decision) → move n m s p.name ≡ Some (event_of m s p d) → next n m s (event_of m s p d).entry ≡ Some (event_of m s p d)
+move_legal : (n : ℕ) (m : Program) (s : State) (p : Process) (d : Decision) → move n m s p.name ≡ Some (event_of m s p d)
+    → next n m s (event_of m s p d).entry ≡ Some (event_of m s p d)
 move_legal n m s p (commits k bs rs) e = agreed_itself m s p (commits k bs rs) _ e
 move_legal n m s p (waits_on rs) e = agreed_itself m s p (waits_on rs) _ e
 move_legal n m s p (decides_fail rs) e = agreed_itself m s p (decides_fail rs) _ e
@@ -67,7 +73,8 @@ legal_on n m limits at = record {
   at_pass = λ p rest d f i x rec h l. rec (pass_sound at h p rest f.queued (ap is_over f.is_running) _) (pass_lawful at l _ _);
   at_move = λ p rest d f i x rec h l.
       let front = front_is_ready at h p rest f.queued in
-      replayed n m at.state (event_of m at.state p d) x.0 (move_legal n m at.state p d (moved n m at.state p d f.is_running front.0 front.1 f.decided))
+      replayed n m at.state (event_of m at.state p d) x.0 (move_legal n m at.state p d
+      (moved n m at.state p d f.is_running front.0 front.1 f.decided))
       (rec (move_sound m at p rest d h f.queued f.is_running) (move_lawful m at p rest d f.not_due l));
 }
 
@@ -75,13 +82,15 @@ legal_on n m limits at = record {
 counts_for : (limits : Limits) (c c' k k' : ℕ) (es : List Entry) → c ≡ c' → k ≡ k' → KeepsCounts limits c k es → KeepsCounts limits c' k' es
 counts_for limits c c' k k' es e f h = subst (λ x. KeepsCounts limits x k' es) e (subst (λ x. KeepsCounts limits c x es) f h)
 
-control_counts : (limits : Limits) (c k : ℕ) (a : Act) (es : List Entry) → KeepsCounts limits c k es → KeepsCounts limits c k (act_entry a ∷ es)
+control_counts : (limits : Limits) (c k : ℕ) (a : Act) (es : List Entry) → KeepsCounts limits c k es
+    → KeepsCounts limits c k (act_entry a ∷ es)
 control_counts limits c k act.Snapshot es h = (tt, counts_for limits _ _ _ _ es (omega arith) (omega arith) h)
 control_counts limits c k act.Suspend es h = (tt, counts_for limits _ _ _ _ es (omega arith) (omega arith) h)
 control_counts limits c k act.Resume es h = (tt, counts_for limits _ _ _ _ es (omega arith) (omega arith) h)
 control_counts limits c k act.Abort es h = (tt, counts_for limits _ _ _ _ es (omega arith) (omega arith) h)
 
-move_counts : (limits : Limits) (c k : ℕ) (m : Program) (s : State) (p : Process) (d : Decision) (es : List Entry) → c < limits.commits → k < limits.moves →
+move_counts : (limits : Limits) (c k : ℕ) (m : Program) (s : State) (p : Process) (d : Decision) (es : List Entry) → c < limits.commits
+    → k < limits.moves →
     KeepsCounts limits (c + one (is_commit (event_of m s p d).entry)) (k + 1) es → KeepsCounts limits c k ((event_of m s p d).entry ∷ es)
 move_counts limits c k m s p (commits j bs rs) es u v h = ((u, v), h)
 move_counts limits c k m s p (waits_on rs) es u v h = ((u, v), h)
@@ -173,17 +182,28 @@ FailsOn from x = FailsLast from x.0 x.1
 nothing_fails : (at : Schedule) → FailsOn at ([], at)
 nothing_fails at = record { over = λ o. record { none = refl; stays = refl }; last = λ o f. absurd (failed_is_over at.state.mode o f) }
 
-control_fails : (at : Schedule) → is_over at.state.mode ≡ false → (c : Control) (cs : List Control) (x : List Event × Schedule) → FailsOn (after_control at c cs) x → FailsOn at (event_of_control at c ∷ x.0, x.1)
-control_fails at o c cs x h = record { over = λ u. absurd (true≢false (sym u ∙ o)); last = λ u f. go (is_over (mode_after c.act at.state.mode)) refl f }
+control_fails : (at : Schedule) → is_over at.state.mode ≡ false → (c : Control) (cs : List Control) (x : List Event × Schedule)
+    → FailsOn (after_control at c cs) x → FailsOn at (event_of_control at c ∷ x.0, x.1)
+control_fails at o c cs x h =
+    record { over = λ u. absurd (true≢false (sym u ∙ o)); last = λ u f. go (is_over (mode_after c.act at.state.mode)) refl f }
   where
-    go : (b : Bool) → is_over (mode_after c.act at.state.mode) ≡ b → has_failed x.1.state.mode ≡ true → ends_in_fail (act_entry c.act ∷ entries_of x.0) ≡ true
+    go : (b : Bool) → is_over (mode_after c.act at.state.mode) ≡ b → has_failed x.1.state.mode ≡ true
+        → ends_in_fail (act_entry c.act ∷ entries_of x.0) ≡ true
     go true e f = absurd (control_fails_not c.act at.state.mode o (sym (ap has_failed (h.over e).stays) ∙ f))
     go false e f = fail_behind (act_entry c.act) (entries_of x.0) (h.last e f)
 
-move_fails : (m : Program) (at : Schedule) (p : Process) (rest : List Process) (d : Decision) → is_over at.state.mode ≡ false → (x : List Event × Schedule) → FailsOn (after_event at rest (event_of m at.state p d)) x → FailsOn at (event_of m at.state p d ∷ x.0, x.1)
-move_fails m at p rest (commits k bs rs) o x h = record { over = λ u. absurd (true≢false (sym u ∙ o)); last = λ u f. fail_behind (Commit p.name k) (entries_of x.0) (h.last o f) }
-move_fails m at p rest (waits_on rs) o x h = record { over = λ u. absurd (true≢false (sym u ∙ o)); last = λ u f. fail_behind (Hang p.name) (entries_of x.0) (h.last o f) }
-move_fails m at p rest (decides_fail rs) o x h = record { over = λ u. absurd (true≢false (sym u ∙ o)); last = λ u f. subst (λ evs. ends_in_fail (Fail p.name ∷ entries_of evs) ≡ true) (sym (h.over refl).none) refl }
+move_fails : (m : Program) (at : Schedule) (p : Process) (rest : List Process) (d : Decision) → is_over at.state.mode ≡ false
+    → (x : List Event × Schedule) → FailsOn (after_event at rest (event_of m at.state p d)) x
+    → FailsOn at (event_of m at.state p d ∷ x.0, x.1)
+move_fails m at p rest (commits k bs rs) o x h =
+    record { over = λ u. absurd (true≢false (sym u ∙ o)); last = λ u f. fail_behind (Commit p.name k) (entries_of x.0) (h.last o f) }
+move_fails m at p rest (waits_on rs) o x h =
+    record { over = λ u. absurd (true≢false (sym u ∙ o)); last = λ u f. fail_behind (Hang p.name) (entries_of x.0) (h.last o f) }
+move_fails m at p rest (decides_fail rs) o x h = record {
+  over = λ u. absurd (true≢false (sym u ∙ o));
+  last = λ u f. subst
+      (λ evs. ends_in_fail (Fail p.name ∷ entries_of evs) ≡ true) (sym (h.over refl).none) refl;
+}
 
 fails_on : (n : ℕ) (m : Program) (limits : Limits) (at : Schedule) → Holds n m limits at (LeadsOn FailsOn at)
 fails_on n m limits at = record {
@@ -202,10 +222,21 @@ module _ (n : ℕ) (m : Program) (limits : Limits) (at : Schedule) where
   end_not_due : is_over at.state.mode ≡ false → ruling n m limits at ≡ Some ends → is_due at.controls at.moves ≡ false
   end_not_due o e =
       go (is_due at.controls at.moves) refl
-      (sym (ap (λ b. elim b [ true ↦ Some ends | _ ↦ elim (is_due at.controls at.moves) [ true ↦ Some (control_ruling at at.controls) | _ ↦ elim (is_suspended at.state.mode) [ true ↦ Some ends | _ ↦ queue_ruling n m limits at at.queue ] ] ]) o) ∙ e)
+      (sym (ap (λ b. elim b [
+        | true ↦ Some ends
+        | _ ↦ elim (is_due at.controls at.moves) [
+          | true ↦ Some (control_ruling at at.controls)
+          | _ ↦ elim (is_suspended at.state.mode)
+              [ true ↦ Some ends | _ ↦ queue_ruling n m limits at at.queue ]
+        ]
+      ]) o) ∙ e)
     where
       go : (b : Bool) → is_due at.controls at.moves ≡ b →
-          elim b [ true ↦ Some (control_ruling at at.controls) | _ ↦ elim (is_suspended at.state.mode) [ true ↦ Some ends | _ ↦ queue_ruling n m limits at at.queue ] ] ≡ Some ends → b ≡ false
+          elim b [
+            | true ↦ Some (control_ruling at at.controls)
+            | _ ↦ elim (is_suspended at.state.mode)
+                [ true ↦ Some ends | _ ↦ queue_ruling n m limits at at.queue ]
+          ] ≡ Some ends → b ≡ false
       go true d f = absurd (control_goes_on at.controls d f)
       go false d f = refl
 
@@ -215,7 +246,8 @@ nothing_behind_abort act.Suspend e = true≢false (sym e)
 nothing_behind_abort act.Resume e = true≢false (sym e)
 nothing_behind_abort act.Abort e = true≢false (sym e)
 
-none_due : (n : ℕ) (m : Program) (limits : Limits) (at : Schedule) (log : List Entry) → IsLawfulSchedule at → ruling n m limits at ≡ Some ends → at.moves ≡ moves_in log → (has_failed at.state.mode ≡ true → ends_in_fail log ≡ true) →
+none_due : (n : ℕ) (m : Program) (limits : Limits) (at : Schedule) (log : List Entry) → IsLawfulSchedule at
+    → ruling n m limits at ≡ Some ends → at.moves ≡ moves_in log → (has_failed at.state.mode ≡ true → ends_in_fail log ≡ true) →
     (cs : List Control) → at.controls ≡ cs → NotDue log cs
 none_due n m limits at log h e v f [] i = tt
 none_due n m limits at log h e v f (c ∷ cs) i = go at.state.mode refl
@@ -224,20 +256,29 @@ none_due n m limits at log h e v f (c ∷ cs) i = go at.state.mode refl
     before = subst (IsAhead at.moves) i h.ahead
 
     not_over : is_over at.state.mode ≡ false → NotDue log (c ∷ cs)
-    not_over o = inl (let d : at.moves < c.after = not_due_yet at.moves c cs (subst (λ ds. is_due ds at.moves ≡ false) i (end_not_due n m limits at o e)) before in omega arith)
+    not_over o =
+        inl
+        (let d : at.moves < c.after = not_due_yet at.moves c cs (subst (λ ds. is_due ds at.moves ≡ false) i
+        (end_not_due n m limits at o e)) before in omega arith)
 
     go : (mode : Mode) → at.state.mode ≡ mode → NotDue log (c ∷ cs)
     go is_open o = not_over (ap is_over o)
     go is_held o = not_over (ap is_over o)
     go is_failed o = inr (f (ap has_failed o), (let b = before in omega arith))
     go is_aborted o =
-        let lawful : AreLawfulFrom at.moves is_aborted (c ∷ cs) = subst (λ mode. AreLawfulFrom at.moves mode (c ∷ cs)) o (subst (AreLawfulFrom at.moves at.state.mode) i (h.lawful (ap has_failed o))) in
+        let lawful : AreLawfulFrom at.moves is_aborted (c ∷ cs) = subst (λ mode. AreLawfulFrom at.moves mode (c ∷ cs)) o
+        (subst (AreLawfulFrom at.moves at.state.mode) i (h.lawful (ap has_failed o))) in
         absurd (nothing_behind_abort c.act lawful.1)
 
 -- all of it
-pub is_lawful_run : (m : Program) (limits : Limits) (s : State) (cs : List Control) (evs : List Event) (at : Schedule) → IsOrdered s → s.mode ≡ is_open → AreLawful cs → IsOneWorkerRun m limits s cs evs at → IsLawfulRun m limits s cs evs at
+pub is_lawful_run : (m : Program) (limits : Limits) (s : State) (cs : List Control) (evs : List Event) (at : Schedule) → IsOrdered s
+    → s.mode ≡ is_open → AreLawful cs → IsOneWorkerRun m limits s cs evs at → IsLawfulRun m limits s cs evs at
 is_lawful_run m limits s cs evs at ordered opened lawful run = record {
-  legal = (steps, by_rulings steps m limits (LegalOn steps m) (λ to h l. refl) (legal_on steps m limits) count from (evs, at) followed (begin_sound s cs ordered) first);
+  legal = (
+    steps,
+    by_rulings steps m limits (LegalOn steps m) (λ to h l. refl) (legal_on steps m limits) count from (evs, at) followed
+        (begin_sound s cs ordered) first,
+  );
   last = sym counted.state;
   within = record {
     counts = by_rulings steps m limits (CountsOn limits) (λ to. tt) (counts_on steps m limits) count from (evs, at) followed;
@@ -246,7 +287,10 @@ is_lawful_run m limits s cs evs at ordered opened lawful run = record {
   kept = record {
     made = made.placed ∙ ap (map place_of) (sym first_made);
     within = omega arith;
-    rest = subst (NotDue (entries_of evs)) (sym left) (none_due run.steps m limits at (entries_of evs) (leads_lawful m limits from evs at first run.leads) run.ended counted.moves (fails.last (ap is_over opened)) at.controls refl);
+    rest =
+        subst (NotDue (entries_of evs)) (sym left)
+        (none_due run.steps m limits at (entries_of evs) (leads_lawful m limits from evs at first run.leads) run.ended counted.moves
+        (fails.last (ap is_over opened)) at.controls refl);
   };
   commits = counted.commits;
   moves = counted.moves;
@@ -272,14 +316,17 @@ is_lawful_run m limits s cs evs at ordered opened lawful run = record {
     counted = leads_counts m limits s cs evs at run.leads
 
     made : MadeControls from evs at
-    made = by_rulings steps m limits MadeOn (λ to. record { made = []; split = refl; placed = refl }) (made_on steps m limits) count from (evs, at) followed
+    made =
+        by_rulings steps m limits MadeOn (λ to. record { made = []; split = refl; placed = refl }) (made_on steps m limits) count from
+        (evs, at) followed
 
     fails : FailsLast from evs at
     fails = by_rulings steps m limits FailsOn nothing_fails (fails_on steps m limits) count from (evs, at) followed
 
     -- as many as were made
     reached : length cs - length at.controls ≡ length made.made
-    reached = let e : length cs ≡ length made.made + length at.controls = ap length made.split ∙ length-append made.made at.controls in omega arith
+    reached = let e : length cs ≡ length made.made + length at.controls = ap length made.split
+        ∙ length-append made.made at.controls in omega arith
 
     first_made : take (length cs - length at.controls) cs ≡ made.made
     first_made = ap (λ k. take k cs) reached ∙ (ap (take (length made.made)) made.split ∙ take-append_seam made.made at.controls)

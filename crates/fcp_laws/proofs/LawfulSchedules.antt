@@ -49,19 +49,25 @@ lawful_later k mode [] d h = tt
 lawful_later k mode (c ∷ cs) d h = (omega (arith, not_due_yet k c cs d h.0), h.1, h.2)
 
 -- what a lawful schedule says of the next control
-pub next_allowed : (at : Schedule) → IsLawfulSchedule at → is_over at.state.mode ≡ false → (c : Control) (cs : List Control) → at.controls ≡ c ∷ cs → AreLawfulFrom at.moves at.state.mode (c ∷ cs)
+pub next_allowed : (at : Schedule) → IsLawfulSchedule at → is_over at.state.mode ≡ false → (c : Control) (cs : List Control)
+    → at.controls ≡ c ∷ cs → AreLawfulFrom at.moves at.state.mode (c ∷ cs)
 next_allowed at h o c cs e = subst (AreLawfulFrom at.moves at.state.mode) e (h.lawful (not_failed at.state.mode o))
 
-pub control_lawful : (at : Schedule) → IsLawfulSchedule at → is_over at.state.mode ≡ false → (c : Control) (cs : List Control) → at.controls ≡ c ∷ cs → c.after ≡ at.moves → IsLawfulSchedule (after_control at c cs)
+pub control_lawful : (at : Schedule) → IsLawfulSchedule at → is_over at.state.mode ≡ false → (c : Control) (cs : List Control)
+    → at.controls ≡ c ∷ cs → c.after ≡ at.moves → IsLawfulSchedule (after_control at c cs)
 control_lawful at h o c cs e d =
-    let rest : AreLawfulFrom at.moves (mode_after c.act at.state.mode) cs = subst (λ k. AreLawfulFrom k (mode_after c.act at.state.mode) cs) d (next_allowed at h o c cs e).2 in
+    let rest : AreLawfulFrom at.moves (mode_after c.act at.state.mode) cs =
+    subst (λ k. AreLawfulFrom k (mode_after c.act at.state.mode) cs) d (next_allowed at h o c cs e).2 in
     record { ahead = ahead_of at.moves _ cs rest; lawful = λ f. rest }
 
-pub pass_lawful : (at : Schedule) → IsLawfulSchedule at → (queue : List Process) (passed : ℕ) → IsLawfulSchedule (record at { queue = queue; passed = passed })
+pub pass_lawful : (at : Schedule) → IsLawfulSchedule at → (queue : List Process) (passed : ℕ)
+    → IsLawfulSchedule (record at { queue = queue; passed = passed })
 pass_lawful at h queue passed = record { ahead = h.ahead; lawful = h.lawful }
 
-pub move_lawful : (m : Program) (at : Schedule) (p : Process) (rest : List Process) (d : Decision) → is_due at.controls at.moves ≡ false → IsLawfulSchedule at → IsLawfulSchedule (after_event at rest (event_of m at.state p d))
-move_lawful m at p rest (commits k bs rs) d h = record { ahead = ahead_later _ _ d h.ahead; lawful = λ f. lawful_later _ _ _ d (h.lawful f) }
+pub move_lawful : (m : Program) (at : Schedule) (p : Process) (rest : List Process) (d : Decision) → is_due at.controls at.moves ≡ false
+    → IsLawfulSchedule at → IsLawfulSchedule (after_event at rest (event_of m at.state p d))
+move_lawful m at p rest (commits k bs rs) d h =
+    record { ahead = ahead_later _ _ d h.ahead; lawful = λ f. lawful_later _ _ _ d (h.lawful f) }
 move_lawful m at p rest (waits_on rs) d h = record { ahead = ahead_later _ _ d h.ahead; lawful = λ f. lawful_later _ _ _ d (h.lawful f) }
 move_lawful m at p rest (decides_fail rs) d h = record { ahead = ahead_later _ _ d h.ahead; lawful = λ f. absurd (true≢false f) }
 
@@ -81,5 +87,7 @@ begin_lawful s cs o h =
     let here : AreLawfulFrom 0 s.mode cs = subst (λ mode. AreLawfulFrom 0 mode cs) (sym o) h in
     record { ahead = ahead_of 0 s.mode cs here; lawful = λ f. here }
 
-pub leads_lawful : (m : Program) (limits : Limits) (from : Schedule) (evs : List Event) (at : Schedule) → IsLawfulSchedule from → Leads m limits from evs at → IsLawfulSchedule at
-leads_lawful m limits from evs at h l = by_rulings l.steps m limits LawfulOn (λ to i. i) (lawful_on l.steps m limits) l.count from (evs, at) l.followed h
+pub leads_lawful : (m : Program) (limits : Limits) (from : Schedule) (evs : List Event) (at : Schedule) → IsLawfulSchedule from
+    → Leads m limits from evs at → IsLawfulSchedule at
+leads_lawful m limits from evs at h l =
+    by_rulings l.steps m limits LawfulOn (λ to i. i) (lawful_on l.steps m limits) l.count from (evs, at) l.followed h

@@ -25,7 +25,8 @@ before_more : (bs : Bytes) (o o' : Option Written) → Refines o o' → Refines 
 before_more bs None o' h = λ x e. cc
 before_more bs (Some w) o' h = λ x e. rw (h w refl) e
 
-then_more : (f g : ℕ → Option Written) → ((k : ℕ) → Refines (f k) (g k)) → (o o' : Option Written) → Refines o o' → Refines (and_then o f) (and_then o' g)
+then_more : (f g : ℕ → Option Written) → ((k : ℕ) → Refines (f k) (g k)) → (o o' : Option Written) → Refines o o'
+    → Refines (and_then o f) (and_then o' g)
 then_more f g h None o' i = λ x e. cc
 then_more f g h (Some w) o' i = λ x e. rw (i w refl) (behind_more w.text _ _ (h w.left) x e)
 
@@ -33,7 +34,8 @@ then_more f g h (Some w) o' i = λ x e. rw (i w refl) (behind_more w.text _ _ (h
 abbrev by_value : (Look → Option Written) → Option Look → Option Written
 by_value f o = elim o [ None ↦ None | Some l ↦ f l ]
 
-value_text_more : (f g : Look → Option Written) → ((l : Look) → Refines (f l) (g l)) → (o o' : Option Look) → Refines o o' → Refines (by_value f o) (by_value g o')
+value_text_more : (f g : Look → Option Written) → ((l : Look) → Refines (f l) (g l)) → (o o' : Option Look) → Refines o o'
+    → Refines (by_value f o) (by_value g o')
 value_text_more f g h None o' i = λ x e. cc
 value_text_more f g h (Some l) o' i = λ x e. rw (i l refl) (h l x e)
 
@@ -43,7 +45,8 @@ by_string f o c = elim c [ Some k ↦ f k | None ↦ o ]
 
 -- A value that is not found is taken for no string, and more steps may find that it is one. So the other text has to be
 -- without an answer where the value is.
-string_text_more : (f g : ℕ → Option Written) (a b : Option Written) → ((k : ℕ) → Refines (f k) (g k)) → Refines a b → (o o' : Option Look) → Refines o o' → (o ≡ None → a ≡ None) → Refines (by_string f a (string_of o)) (by_string g b (string_of o'))
+string_text_more : (f g : ℕ → Option Written) (a b : Option Written) → ((k : ℕ) → Refines (f k) (g k)) → Refines a b
+    → (o o' : Option Look) → Refines o o' → (o ≡ None → a ≡ None) → Refines (by_string f a (string_of o)) (by_string g b (string_of o'))
 string_text_more f g a b h i None o' j missing = λ x e. let z : a ≡ None = missing refl in cc
 string_text_more f g a b h i (Some l) o' j missing = λ x e. rw (j l refl) (go (string_of (Some l)) x e)
   where
@@ -53,12 +56,14 @@ string_text_more f g a b h i (Some l) o' j missing = λ x e. rw (j l refl) (go (
 
 module _ (names : List Bytes) (s : Bindings) where
   -- parts have no text in steps that do not find the first one's value
-  no_parts : (n left : ℕ) (t u : Term Variable) (us : Terms Variable) → value n s t ≡ None → parts_text n names s (suc left) t (more u us) ≡ None
+  no_parts : (n left : ℕ) (t u : Term Variable) (us : Terms Variable) → value n s t ≡ None
+      → parts_text n names s (suc left) t (more u us) ≡ None
   no_parts zero left t u us e = refl
   no_parts (suc zero) left t u us e = refl
   no_parts (suc (suc n)) left t u us e =
       let fewer : value n s t ≡ None = none_before (λ j. value j s t) (value_more s t) n (suc (suc n)) (omega arith) e in
-      ap (λ (o : Option Look). and_then (before (codes ",") (by_value (λ l. look_text n names s left l (leaf_text names l)) o)) (λ k. parts_text (suc n) names s k u us)) fewer
+      ap (λ (o : Option Look). and_then (before (codes ",") (by_value (λ l. look_text n names s left l (leaf_text names l)) o))
+      (λ k. parts_text (suc n) names s k u us)) fewer
 
   -- one step more keeps the text of a term, of a value, of a list's rest, of a tuple and of parts
   mutual
@@ -71,7 +76,8 @@ module _ (names : List Bytes) (s : Bindings) where
     look_more zero left l (Some bs) = λ x e. e
     look_more zero left l None = λ x e. cc
     look_more (suc n) left l (Some bs) = λ x e. e
-    look_more (suc n) left (solid (cons a b)) None = behind_more (codes "[") _ _ (then_more _ _ (λ k. rest_more n k b) _ _ (term_more n left a))
+    look_more (suc n) left (solid (cons a b)) None =
+        behind_more (codes "[") _ _ (then_more _ _ (λ k. rest_more n k b) _ _ (term_more n left a))
     look_more (suc n) left (solid (tuple ts)) None = tuple_more n left ts
     look_more (suc n) left l None = λ x e. e
 
@@ -83,13 +89,15 @@ module _ (names : List Bytes) (s : Bindings) where
     rest_on_more : (n left : ℕ) (t : Term Variable) (l : Look) → Refines (rest_on n names s left t l) (rest_on (suc n) names s left t l)
     rest_on_more zero left t l = λ x e. cc
     rest_on_more (suc n) left t (solid nil) = λ x e. e
-    rest_on_more (suc n) left t (solid (cons a b)) = behind_more (codes ",") _ _ (then_more _ _ (λ k. rest_more n k b) _ _ (term_more n left a))
+    rest_on_more (suc n) left t (solid (cons a b)) =
+        behind_more (codes ",") _ _ (then_more _ _ (λ k. rest_more n k b) _ _ (term_more n left a))
     rest_on_more (suc n) left t l = behind_more (codes "|") _ _ (before_more (codes "]") _ _ (term_more n (suc left) t))
 
     tuple_more : (n left : ℕ) (ts : Terms Variable) → Refines (tuple_text n names s left ts) (tuple_text (suc n) names s left ts)
     tuple_more zero left ts = λ x e. cc
     tuple_more (suc n) (suc left) (more t (more u us)) =
-        string_text_more _ _ _ _ (λ k. behind_more (string_text (name_at names k) ++ codes "(") _ _ (before_more (codes ")") _ _ (parts_more n left u us)))
+        string_text_more _ _ _ _ (λ k. behind_more (string_text (name_at names k) ++ codes "(") _ _
+        (before_more (codes ")") _ _ (parts_more n left u us)))
         (behind_more (codes "{") _ _ (before_more (codes "}") _ _ (parts_more n (suc left) t (more u us))))
         _ _ (value_more s t n) (λ e. ap (λ (o : Option Written). behind (codes "{") (before (codes "}") o)) (no_parts n left t u us e))
     tuple_more (suc n) zero (more t ts) = behind_more (codes "{") _ _ (before_more (codes "}") _ _ (parts_more n zero t ts))
@@ -97,7 +105,8 @@ module _ (names : List Bytes) (s : Bindings) where
     tuple_more (suc n) zero none = λ x e. e
     tuple_more (suc n) (suc left) none = λ x e. e
 
-    parts_more : (n left : ℕ) (t : Term Variable) (ts : Terms Variable) → Refines (parts_text n names s left t ts) (parts_text (suc n) names s left t ts)
+    parts_more : (n left : ℕ) (t : Term Variable) (ts : Terms Variable)
+        → Refines (parts_text n names s left t ts) (parts_text (suc n) names s left t ts)
     parts_more zero left t ts = λ x e. cc
     parts_more (suc n) left t none = term_more n left t
     parts_more (suc n) left t (more u us) = then_more _ _ (λ k. parts_more n k u us) _ _ (before_more (codes ",") _ _ (term_more n left t))

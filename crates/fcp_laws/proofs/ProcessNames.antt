@@ -26,7 +26,8 @@ pub name_found : (ps : List Process) (n : Proc) (p : Process) → process_named 
 name_found [] n p e = cc
 name_found (q ∷ ps) n p e = go (is_same_process q.name n) refl (name_found ps n p) e
   where
-    go : (b : Bool) → is_same_process q.name n ≡ b → (process_named ps n ≡ Some p → p.name ≡ n) → picked b q (process_named ps n) ≡ Some p → p.name ≡ n
+    go : (b : Bool) → is_same_process q.name n ≡ b → (process_named ps n ≡ Some p → p.name ≡ n) → picked b q (process_named ps n) ≡ Some p
+        → p.name ≡ n
     go true f rec h = let e : q ≡ p = cc in ap (λ x. x.name) (sym e) ∙ same_process q.name n f
     go false f rec h = rec h
 
@@ -34,7 +35,8 @@ name_found (q ∷ ps) n p e = go (is_same_process q.name n) refl (name_found ps 
 pub head_found : (p : Process) (ps : List Process) → process_named (p ∷ ps) p.name ≡ Some p
 head_found p ps = ap (λ b. picked b p (process_named ps p.name)) (same_itself p.name)
 
-pub head_passed : (p : Process) (ps : List Process) (n : Proc) → is_same_process p.name n ≡ false → process_named (p ∷ ps) n ≡ process_named ps n
+pub head_passed : (p : Process) (ps : List Process) (n : Proc) → is_same_process p.name n ≡ false
+    → process_named (p ∷ ps) n ≡ process_named ps n
 head_passed p ps n h = ap (λ b. picked b p (process_named ps n)) h
 
 abbrev pub first_of_two : Option Process → Option Process → Option Process
@@ -45,7 +47,8 @@ pub named_append : (ps qs : List Process) (n : Proc) → process_named (ps ++ qs
 named_append [] qs n = refl
 named_append (p ∷ ps) qs n = go (is_same_process p.name n) (named_append ps qs n)
   where
-    go : (b : Bool) → process_named (ps ++ qs) n ≡ first_of_two (process_named ps n) (process_named qs n) → picked b p (process_named (ps ++ qs) n) ≡ first_of_two (picked b p (process_named ps n)) (process_named qs n)
+    go : (b : Bool) → process_named (ps ++ qs) n ≡ first_of_two (process_named ps n) (process_named qs n)
+        → picked b p (process_named (ps ++ qs) n) ≡ first_of_two (picked b p (process_named ps n)) (process_named qs n)
     go true e = refl
     go false e = e
 
@@ -53,9 +56,14 @@ named_append (p ∷ ps) qs n = go (is_same_process p.name n) (named_append ps qs
 module _ (f : Process → Process) (keeps : (p : Process) → (f p).name ≡ p.name) where
   pub named_map : (ps : List Process) (n : Proc) → process_named (map f ps) n ≡ option_map f (process_named ps n)
   named_map [] n = refl
-  named_map (p ∷ ps) n = subst (λ x. picked (is_same_process x n) (f p) (process_named (map f ps) n) ≡ option_map f (picked (is_same_process p.name n) p (process_named ps n))) (sym (keeps p)) (go (is_same_process p.name n) (named_map ps n))
+  named_map (p ∷ ps) n =
+      subst
+      (λ x. picked (is_same_process x n) (f p) (process_named (map f ps) n)
+      ≡ option_map f (picked (is_same_process p.name n) p (process_named ps n)))
+      (sym (keeps p)) (go (is_same_process p.name n) (named_map ps n))
     where
-      go : (b : Bool) → process_named (map f ps) n ≡ option_map f (process_named ps n) → picked b (f p) (process_named (map f ps) n) ≡ option_map f (picked b p (process_named ps n))
+      go : (b : Bool) → process_named (map f ps) n ≡ option_map f (process_named ps n)
+          → picked b (f p) (process_named (map f ps) n) ≡ option_map f (picked b p (process_named ps n))
       go true e = refl
       go false e = e
 
@@ -88,20 +96,24 @@ abbrev pub kept_if : (Process → Bool) → Option Process → Option Process
 kept_if t None = None
 kept_if t (Some p) = cond (t p) (Some p) None
 
-pub named_filter : (t : Process → Bool) (ps : List Process) → AreApart ps → (n : Proc) → process_named (filter t ps) n ≡ kept_if t (process_named ps n)
+pub named_filter : (t : Process → Bool) (ps : List Process) → AreApart ps → (n : Proc)
+    → process_named (filter t ps) n ≡ kept_if t (process_named ps n)
 named_filter t [] h n = refl
 named_filter t (p ∷ ps) h n = go (is_same_process p.name n) (t p) refl refl (named_filter t ps h.1 n)
   where
-    go : (b c : Bool) → is_same_process p.name n ≡ b → t p ≡ c → process_named (filter t ps) n ≡ kept_if t (process_named ps n) → process_named (cond c (p ∷ filter t ps) (filter t ps)) n ≡ kept_if t (picked b p (process_named ps n))
+    go : (b c : Bool) → is_same_process p.name n ≡ b → t p ≡ c → process_named (filter t ps) n ≡ kept_if t (process_named ps n)
+        → process_named (cond c (p ∷ filter t ps) (filter t ps)) n ≡ kept_if t (picked b p (process_named ps n))
     go true true e f rec = ap (λ b. picked b p (process_named (filter t ps) n)) e ∙ sym (ap (λ c. cond c (Some p) None) f)
-    go true false e f rec = let gone : process_named ps n ≡ None = subst (λ x. process_named ps x ≡ None) (same_process p.name n e) h.0 in rw f (rw gone at rec)
+    go true false e f rec = let gone : process_named ps n ≡ None = subst (λ x. process_named ps x ≡ None)
+        (same_process p.name n e) h.0 in rw f (rw gone at rec)
     go false true e f rec = ap (λ b. picked b p (process_named (filter t ps) n)) e ∙ rec
     go false false e f rec = rec
 
 pub older_apart : (p q : Proc) → is_older_process p q ≡ true → is_same_process q p ≡ false
 older_apart p q h = ⊎_elim
     (λ (i : ltb p.entry q.entry ≡ true). and_left _ _ (ne_eqb _ _ (λ (e : q.entry ≡ p.entry). omega (arith, ltb-true p.entry q.entry i))))
-    (λ (i : (eqb p.entry q.entry && ltb p.number q.number) ≡ true). and_right _ _ (ne_eqb _ _ (λ (e : q.number ≡ p.number). omega (arith, ltb-true p.number q.number (and_parts _ _ i).1))))
+    (λ (i : (eqb p.entry q.entry && ltb p.number q.number) ≡ true). and_right _ _
+    (ne_eqb _ _ (λ (e : q.number ≡ p.number). omega (arith, ltb-true p.number q.number (and_parts _ _ i).1))))
     (or_cases _ _ h)
 
 pub none_younger : (n : Proc) (ps : List Process) → Each (λ q. is_older_process n q.name ≡ true) ps → process_named ps n ≡ None
@@ -115,4 +127,5 @@ apart_of_rise (p ∷ ps) h = (none_younger p.name ps h.0, apart_of_rise ps h.1)
 -- no process of an entry above n
 pub none_above : (n : ℕ) (ps : List Process) → NamesWithin n ps → (q : Proc) → n < q.entry → process_named ps q ≡ None
 none_above n [] h q l = refl
-none_above n (p ∷ ps) h q l = head_passed p ps q (and_left _ _ (ne_eqb _ _ (λ (e : p.name.entry ≡ q.entry). omega (arith, h.0)))) ∙ none_above n ps h.1 q l
+none_above n (p ∷ ps) h q l =
+    head_passed p ps q (and_left _ _ (ne_eqb _ _ (λ (e : p.name.entry ≡ q.entry). omega (arith, h.0)))) ∙ none_above n ps h.1 q l

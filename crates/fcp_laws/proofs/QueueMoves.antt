@@ -23,7 +23,8 @@ pub none_named : (n : Proc) (ps : List Process) → process_named ps n ≡ None 
 none_named n [] e = tt
 none_named n (q ∷ ps) e = go (is_same_process q.name n) refl (none_named n ps) e
   where
-    go : (b : Bool) → is_same_process q.name n ≡ b → (process_named ps n ≡ None → Each (λ x. is_same_process x.name n ≡ false) ps) → picked b q (process_named ps n) ≡ None → Each (λ x. is_same_process x.name n ≡ false) (q ∷ ps)
+    go : (b : Bool) → is_same_process q.name n ≡ b → (process_named ps n ≡ None → Each (λ x. is_same_process x.name n ≡ false) ps)
+        → picked b q (process_named ps n) ≡ None → Each (λ x. is_same_process x.name n ≡ false) (q ∷ ps)
     go true f rec i = absurd cc
     go false f rec i = (f, rec i)
 
@@ -49,7 +50,8 @@ pub each_itself : (ps : List Process) → AreApart ps → Each (λ p. process_na
 each_itself [] h = tt
 each_itself (p ∷ ps) h = (head_found p ps, go ps (none_named p.name ps h.0) (each_itself ps h.1))
   where
-    go : (qs : List Process) → Each (λ q. is_same_process q.name p.name ≡ false) qs → Each (λ q. process_named ps q.name ≡ Some q) qs → Each (λ q. process_named (p ∷ ps) q.name ≡ Some q) qs
+    go : (qs : List Process) → Each (λ q. is_same_process q.name p.name ≡ false) qs → Each (λ q. process_named ps q.name ≡ Some q) qs
+        → Each (λ q. process_named (p ∷ ps) q.name ≡ Some q) qs
     go [] i j = tt
     go (q ∷ qs) i j = (head_passed p ps q.name (same_both_ways q.name p.name i.0) ∙ j.0, go qs i.1 j.1)
 
@@ -57,27 +59,33 @@ each_itself (p ∷ ps) h = (head_found p ps, go ps (none_named p.name ps h.0) (e
 pub turned : (p : Process) (ps : List Process) → AreApart (p ∷ ps) → (n : Proc) → process_named (ps ++ p ∷ []) n ≡ process_named (p ∷ ps) n
 turned p ps h n = named_append ps (p ∷ []) n ∙ go (is_same_process p.name n) refl (process_named ps n) refl
   where
-    go : (b : Bool) → is_same_process p.name n ≡ b → (o : Option Process) → process_named ps n ≡ o → first_of_two o (picked b p None) ≡ picked b p o
+    go : (b : Bool) → is_same_process p.name n ≡ b → (o : Option Process) → process_named ps n ≡ o
+        → first_of_two o (picked b p None) ≡ picked b p o
     go true e None f = refl
-    go true e (Some q) f = absurd (let gone : process_named ps n ≡ None = subst (λ x. process_named ps x ≡ None) (same_process p.name n e) h.0 in cc)
+    go true e (Some q) f =
+        absurd (let gone : process_named ps n ≡ None = subst (λ x. process_named ps x ≡ None) (same_process p.name n e) h.0 in cc)
     go false e None f = refl
     go false e (Some q) f = refl
 
 pub apart_turned : (p : Process) (ps : List Process) → AreApart (p ∷ ps) → AreApart (ps ++ p ∷ [])
 apart_turned p ps h =
     apart_append ps (p ∷ []) h.1 (refl, tt)
-    (each_so (λ q. is_same_process q.name p.name ≡ false) (λ q. process_named (p ∷ []) q.name ≡ None) (λ q i. head_passed p [] q.name (same_both_ways q.name p.name i)) ps (none_named p.name ps h.0))
+    (each_so (λ q. is_same_process q.name p.name ≡ false) (λ q. process_named (p ∷ []) q.name ≡ None)
+    (λ q i. head_passed p [] q.name (same_both_ways q.name p.name i)) ps (none_named p.name ps h.0))
 
 -- names that rise
 second_true : (x y : Bool) → y ≡ true → (x || y) ≡ true
 second_true true y e = refl
 second_true false y e = e
 
-pub rise_append : (n : ℕ) (ps qs : List Process) → NamesWithin n ps → Each (λ q. n < q.name.entry) qs → NamesRise ps → NamesRise qs → NamesRise (ps ++ qs)
+pub rise_append : (n : ℕ) (ps qs : List Process) → NamesWithin n ps → Each (λ q. n < q.name.entry) qs → NamesRise ps → NamesRise qs
+    → NamesRise (ps ++ qs)
 rise_append n [] qs w h r i = i
 rise_append n (p ∷ ps) qs w h r i = (
   each_append (λ q. is_older_process p.name q.name ≡ true) ps qs r.0
-      (each_so (λ q. n < q.name.entry) (λ q. is_older_process p.name q.name ≡ true) (λ q l. ap (λ b. b || (eqb p.name.entry q.name.entry && ltb p.name.number q.name.number)) (lt-ltb p.name.entry q.name.entry (omega (arith, w.0, l)))) qs h),
+      (each_so (λ q. n < q.name.entry) (λ q. is_older_process p.name q.name ≡ true)
+      (λ q l. ap (λ b. b || (eqb p.name.entry q.name.entry && ltb p.name.number q.name.number))
+      (lt-ltb p.name.entry q.name.entry (omega (arith, w.0, l)))) qs h),
   rise_append n ps qs w.1 h r.1 i,
 )
 
@@ -90,9 +98,11 @@ pub children_ready : (n k : ℕ) (gs : List (Goal Variable)) → Each (λ q. q.s
 children_ready n k [] = tt
 children_ready n k (g ∷ gs) = (refl, children_ready n (suc k) gs)
 
-children_younger : (n j k : ℕ) (gs : List (Goal Variable)) → j < k → Each (λ q. is_older_process (proc n j) q.name ≡ true) (processes_of n k gs)
+children_younger : (n j k : ℕ) (gs : List (Goal Variable)) → j < k
+    → Each (λ q. is_older_process (proc n j) q.name ≡ true) (processes_of n k gs)
 children_younger n j k [] h = tt
-children_younger n j k (g ∷ gs) h = (second_true _ _ (and_from _ _ (eq-eqb n n refl) (lt-ltb j k h)), children_younger n j (suc k) gs (omega (arith, h)))
+children_younger n j k (g ∷ gs) h =
+    (second_true _ _ (and_from _ _ (eq-eqb n n refl) (lt-ltb j k h)), children_younger n j (suc k) gs (omega (arith, h)))
 
 pub children_rise : (n k : ℕ) (gs : List (Goal Variable)) → NamesRise (processes_of n k gs)
 children_rise n k [] = tt
@@ -101,7 +111,8 @@ children_rise n k (g ∷ gs) = (children_younger n k (suc k) gs (omega arith), c
 -- A move of the front p: the other processes keep what they are but those of which t says that they wake, and then come the
 -- new ones, of a later entry. All names stay.
 module _ (e : ℕ) (p : Process) (rest ps : List Process) (f : Process → Process) (t : Process → Bool) (new : List Process)
-    (keeps : (q : Process) → (f q).name ≡ q.name) (at_front : (q : Process) → is_same_process q.name p.name ≡ true → (f q).status ≡ ready → ⊥)
+    (keeps : (q : Process) → (f q).name ≡ q.name) (at_front : (q : Process) → is_same_process q.name p.name ≡ true → (f q).status ≡ ready
+    → ⊥)
     (elsewhere : (q : Process) → is_same_process q.name p.name ≡ false → f q ≡ cond (t q) (made_ready q) q)
     (asleep : (q : Process) → q.status ≡ ready → t q ≡ false)
     (ordered : NamesRise ps) (within : NamesWithin e ps)
@@ -116,7 +127,8 @@ module _ (e : ℕ) (p : Process) (rest ps : List Process) (f : Process → Proce
   turned_ready o = option_map made_ready (kept_if t o)
 
   woken_named : (n : Proc) → process_named woken n ≡ turned_ready (process_named ps n)
-  woken_named n = named_map made_ready (λ q. refl) (filter t ps) n ∙ ap (option_map made_ready) (named_filter t ps (apart_of_rise ps ordered) n)
+  woken_named n =
+      named_map made_ready (λ q. refl) (filter t ps) n ∙ ap (option_map made_ready) (named_filter t ps (apart_of_rise ps ordered) n)
 
   front : (process_named ps p.name ≡ Some p) × (p.status ≡ ready)
   front = are_ready p.name p (head_found p rest)
@@ -126,7 +138,9 @@ module _ (e : ℕ) (p : Process) (rest ps : List Process) (f : Process → Proce
   in_rest n q i = go (is_same_process p.name n) refl
     where
       go : (b : Bool) → is_same_process p.name n ≡ b → b ≡ false
-      go true j = absurd (let gone : process_named rest n ≡ None = subst (λ x. process_named rest x ≡ None) (same_process p.name n j) apart.0 in cc)
+      go true j =
+          absurd
+          (let gone : process_named rest n ≡ None = subst (λ x. process_named rest x ≡ None) (same_process p.name n j) apart.0 in cc)
       go false j = refl
 
   rest_ready : (n : Proc) (q : Process) → process_named rest n ≡ Some q → (process_named ps n ≡ Some q) × (q.status ≡ ready)
@@ -145,7 +159,9 @@ module _ (e : ℕ) (p : Process) (rest ps : List Process) (f : Process → Proce
       go false k = refl
 
   new_not_old : (n : Proc) (q : Process) → process_named new n ≡ Some q → process_named ps n ≡ None
-  new_not_old n q i = none_above e ps within n (subst (λ (x : Proc). e < x.entry) (name_found new n q i) (each_found (λ x. e < x.name.entry) new n q new_entry i))
+  new_not_old n q i =
+      none_above e ps within n
+      (subst (λ (x : Proc). e < x.entry) (name_found new n q i) (each_found (λ x. e < x.name.entry) new n q new_entry i))
 
   old_not_new : (n : Proc) (q : Process) → process_named ps n ≡ Some q → process_named new n ≡ None
   old_not_new n q i = go (process_named new n) refl
@@ -163,10 +179,12 @@ module _ (e : ℕ) (p : Process) (rest ps : List Process) (f : Process → Proce
   processes_named : (n : Proc) → process_named processes n ≡ first_of_two (option_map f (process_named ps n)) (process_named new n)
   processes_named n = named_append (map f ps) new n ∙ ap (λ o. first_of_two o (process_named new n)) (named_map f keeps ps n)
 
-  queue_named : (n : Proc) → process_named queue n ≡ first_of_two (process_named rest n) (first_of_two (process_named new n) (turned_ready (process_named ps n)))
+  queue_named : (n : Proc)
+      → process_named queue n ≡ first_of_two (process_named rest n) (first_of_two (process_named new n) (turned_ready (process_named ps n)))
   queue_named n =
       ap (λ qs. process_named qs n) (append_assoc rest new woken)
-      ∙ (named_append rest (new ++ woken) n ∙ ap (first_of_two (process_named rest n)) (named_append new woken n ∙ ap (first_of_two (process_named new n)) (woken_named n)))
+      ∙ (named_append rest (new ++ woken) n ∙ ap (first_of_two (process_named rest n))
+      (named_append new woken n ∙ ap (first_of_two (process_named new n)) (woken_named n)))
 
   abbrev IsIn : Proc → Process → Type 0
   IsIn n q = (process_named processes n ≡ Some q) × (q.status ≡ ready)
@@ -182,21 +200,28 @@ module _ (e : ℕ) (p : Process) (rest ps : List Process) (f : Process → Proce
           wakes false l u = absurd cc
           wakes true l u =
               let same : made_ready x ≡ q = cc in
-              let gives : f x ≡ made_ready x = elsewhere x (woken_other n x j l) ∙ ap (λ b. cond b (made_ready x) x) l in
-              (processes_named n ∙ (ap (λ o. first_of_two (option_map f o) (process_named new n)) j ∙ ap Some (gives ∙ same)), subst (λ (y : Process). y.status ≡ ready) same refl)
+              let gives : f x ≡ made_ready x = elsewhere x (woken_other n x j l) ∙ ap (λ b. cond b (made_ready x) x) l in (
+                processes_named n ∙ (ap (λ o. first_of_two (option_map f o) (process_named new n)) j ∙ ap Some (gives ∙ same)),
+                subst
+                    (λ (y : Process). y.status ≡ ready) same refl,
+              )
 
       at_new : (o : Option Process) → process_named new n ≡ o → first_of_two o (turned_ready (process_named ps n)) ≡ Some q → IsIn n q
       at_new None j k = at_old (process_named ps n) refl k
       at_new (Some x) j k =
-          let found : process_named new n ≡ Some q = j ∙ k in
-          (processes_named n ∙ (ap (λ o. first_of_two (option_map f o) (process_named new n)) (new_not_old n q found) ∙ found), each_found (λ y. y.status ≡ ready) new n q new_ready found)
+          let found : process_named new n ≡ Some q = j ∙ k in (
+            processes_named n ∙ (ap (λ o. first_of_two (option_map f o) (process_named new n)) (new_not_old n q found) ∙ found),
+            each_found (λ y. y.status ≡ ready) new n q new_ready found,
+          )
 
-      at_rest : (o : Option Process) → process_named rest n ≡ o → first_of_two o (first_of_two (process_named new n) (turned_ready (process_named ps n))) ≡ Some q → IsIn n q
+      at_rest : (o : Option Process) → process_named rest n ≡ o
+          → first_of_two o (first_of_two (process_named new n) (turned_ready (process_named ps n))) ≡ Some q → IsIn n q
       at_rest None j k = at_new (process_named new n) refl k
       at_rest (Some x) j k =
           let found : process_named rest n ≡ Some q = j ∙ k in
           let old = rest_ready n q found in
-          let other : is_same_process q.name p.name ≡ false = same_both_ways p.name q.name (subst (λ x. is_same_process p.name x ≡ false) (sym (name_found rest n q found)) (in_rest n q found)) in
+          let other : is_same_process q.name p.name ≡ false = same_both_ways p.name q.name
+          (subst (λ x. is_same_process p.name x ≡ false) (sym (name_found rest n q found)) (in_rest n q found)) in
           let gives : f q ≡ q = elsewhere q other ∙ ap (λ b. cond b (made_ready q) q) (asleep q old.1) in
           (processes_named n ∙ (ap (λ o. first_of_two (option_map f o) (process_named new n)) old.0 ∙ ap Some gives), old.1)
 
@@ -214,8 +239,12 @@ module _ (e : ℕ) (p : Process) (rest ps : List Process) (f : Process → Proce
               let same : y ≡ x = cc in
               absurd (true≢false (sym k ∙ subst (λ z. t z ≡ false) same (asleep y old.1)))
 
-      at_old : (o : Option Process) → process_named ps n ≡ o → first_of_two (option_map f o) (process_named new n) ≡ Some q → process_named queue n ≡ Some q
-      at_old None j k = queue_named n ∙ (ap (λ o. first_of_two o (first_of_two (process_named new n) (turned_ready (process_named ps n)))) nothing ∙ ap (λ o. first_of_two o (turned_ready (process_named ps n))) k)
+      at_old : (o : Option Process) → process_named ps n ≡ o → first_of_two (option_map f o) (process_named new n) ≡ Some q
+          → process_named queue n ≡ Some q
+      at_old None j k =
+          queue_named n
+          ∙ (ap (λ o. first_of_two o (first_of_two (process_named new n) (turned_ready (process_named ps n)))) nothing
+          ∙ ap (λ o. first_of_two o (turned_ready (process_named ps n))) k)
         where
           gone : (o : Option Process) → process_named rest n ≡ o → o ≡ None
           gone None l = refl
@@ -237,10 +266,13 @@ module _ (e : ℕ) (p : Process) (rest ps : List Process) (f : Process → Proce
               ∙ (ap turned_ready j ∙ (ap (λ b. option_map made_ready (cond b (Some x) None)) l ∙ ap Some gives))))
           wakes o false l =
               let gives : x ≡ q = sym (elsewhere x o ∙ ap (λ b. cond b (made_ready x) x) l) ∙ is_f in
-              let there : process_named (p ∷ rest) n ≡ Some x = are_queued n x j (subst (λ (y : Process). y.status ≡ ready) (sym gives) s) in
-              let other : is_same_process p.name n ≡ false = same_both_ways n p.name (subst (λ y. is_same_process y p.name ≡ false) (name_found ps n x j) o) in
+              let there : process_named (p ∷ rest) n ≡ Some x =
+              are_queued n x j (subst (λ (y : Process). y.status ≡ ready) (sym gives) s) in
+              let other : is_same_process p.name n ≡ false =
+              same_both_ways n p.name (subst (λ y. is_same_process y p.name ≡ false) (name_found ps n x j) o) in
               let found : process_named rest n ≡ Some x = sym (head_passed p rest n other) ∙ there in
-              queue_named n ∙ (ap (λ o. first_of_two o (first_of_two (process_named new n) (turned_ready (process_named ps n)))) found ∙ ap Some gives)
+              queue_named n ∙ (ap (λ o. first_of_two o (first_of_two (process_named new n) (turned_ready (process_named ps n)))) found
+              ∙ ap Some gives)
 
           at_name : (b : Bool) → is_same_process x.name p.name ≡ b → process_named queue n ≡ Some q
           at_name true l = absurd (at_front x l (subst (λ (y : Process). y.status ≡ ready) (sym is_f) s))
@@ -249,10 +281,13 @@ module _ (e : ℕ) (p : Process) (rest ps : List Process) (f : Process → Proce
   pub moved_apart : AreApart queue
   moved_apart =
       subst AreApart (sym (append_assoc rest new woken))
-      (apart_append rest (new ++ woken) apart.1 (apart_append new woken (apart_of_rise new new_rise) (apart_ready _ (apart_filter t ps (apart_of_rise ps ordered))) among_new) among_rest)
+      (apart_append rest (new ++ woken) apart.1 (apart_append new woken (apart_of_rise new new_rise)
+      (apart_ready _ (apart_filter t ps (apart_of_rise ps ordered))) among_new) among_rest)
     where
       among_new : Each (λ q. process_named woken q.name ≡ None) new
-      among_new = each_so (λ q. process_named new q.name ≡ Some q) (λ q. process_named woken q.name ≡ None) (λ q i. woken_named q.name ∙ ap turned_ready (new_not_old q.name q i)) new (each_itself new (apart_of_rise new new_rise))
+      among_new =
+          each_so (λ q. process_named new q.name ≡ Some q) (λ q. process_named woken q.name ≡ None)
+          (λ q i. woken_named q.name ∙ ap turned_ready (new_not_old q.name q i)) new (each_itself new (apart_of_rise new new_rise))
 
       among_rest : Each (λ q. process_named (new ++ woken) q.name ≡ None) rest
       among_rest =

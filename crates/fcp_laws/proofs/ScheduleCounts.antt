@@ -36,13 +36,16 @@ module _ (n : ℕ) (m : Program) (limits : Limits) (R : Schedule → List Event 
   by_rulings zero at x e = stayed at x e
   by_rulings (suc i) at x e = go (ruling n m limits at) (by_rule n m limits at (LeadsOn R at) (on at)) (λ to y. by_rulings i to y) e
     where
-      go : (o : Option Ruling) → ((r : Ruling) → o ≡ Some r → LeadsOn R at r) → ((to : Schedule) (y : List Event × Schedule) → rulings i n m limits to ≡ Some y → R to y) → followed (rulings i n m limits) at o ≡ Some x → R at x
+      go : (o : Option Ruling) → ((r : Ruling) → o ≡ Some r → LeadsOn R at r)
+          → ((to : Schedule) (y : List Event × Schedule) → rulings i n m limits to ≡ Some y → R to y)
+          → followed (rulings i n m limits) at o ≡ Some x → R at x
       go None h rec f = cc
       go (Some ends) h rec f = stayed at x f
       go (Some (passes to)) h rec f = h (passes to) refl x (rec to x f)
       go (Some (makes ev to)) h rec f = made (rulings i n m limits to) refl f
         where
-          made : (o : Option (List Event × Schedule)) → rulings i n m limits to ≡ o → option_map {U = List Event × Schedule} (λ (r : List Event × Schedule). (ev ∷ r.0, r.1)) o ≡ Some x → R at x
+          made : (o : Option (List Event × Schedule)) → rulings i n m limits to ≡ o
+              → option_map {U = List Event × Schedule} (λ (r : List Event × Schedule). (ev ∷ r.0, r.1)) o ≡ Some x → R at x
           made None u k = cc
           made (Some y) u k =
               let whole : List Event × Schedule = (ev ∷ y.0, y.1) in
@@ -78,7 +81,9 @@ nothing_counted : (at : Schedule) → IsCounted at [] at
 nothing_counted at = record { state = refl; commits = omega arith; moves = omega arith; cells = omega arith }
 
 -- one event, and then more
-event_counted : (from : Schedule) (ev : Event) (to : Schedule) → to.state ≡ ev.after → to.commits ≡ from.commits + one (is_commit ev.entry) → to.moves ≡ from.moves + one (is_move ev.entry) → to.cells ≡ from.cells + ev.cells →
+event_counted : (from : Schedule) (ev : Event) (to : Schedule) → to.state ≡ ev.after
+    → to.commits ≡ from.commits + one (is_commit ev.entry) → to.moves ≡ from.moves + one (is_move ev.entry)
+    → to.cells ≡ from.cells + ev.cells →
     (x : List Event × Schedule) → IsCounted to x.0 x.1 → IsCounted from (ev ∷ x.0) x.1
 event_counted from ev to s c v l x h = record {
   state = h.state ∙ ap (λ t. last_state t x.0) s;
@@ -101,8 +106,10 @@ counts_on n m limits at = record {
 }
 
 -- what was counted at the first schedule, and what the events hold
-pub leads_counts_from : (m : Program) (limits : Limits) (from : Schedule) (evs : List Event) (at : Schedule) → Leads m limits from evs at → IsCounted from evs at
-leads_counts_from m limits from evs at l = by_rulings l.steps m limits CountsOn nothing_counted (counts_on l.steps m limits) l.count from (evs, at) l.followed
+pub leads_counts_from : (m : Program) (limits : Limits) (from : Schedule) (evs : List Event) (at : Schedule) → Leads m limits from evs at
+    → IsCounted from evs at
+leads_counts_from m limits from evs at l =
+    by_rulings l.steps m limits CountsOn nothing_counted (counts_on l.steps m limits) l.count from (evs, at) l.followed
 
 -- the schedule to which a run comes has the state after its events, with the commits, the moves and the cells of its events
 pub record HasCounted (s : State) (evs : List Event) (at : Schedule) : Type 0 where
@@ -111,7 +118,8 @@ pub record HasCounted (s : State) (evs : List Event) (at : Schedule) : Type 0 wh
   pub moves : at.moves ≡ moves_in (entries_of evs)
   pub cells : at.cells ≡ cells_of evs
 
-pub leads_counts : (m : Program) (limits : Limits) (s : State) (cs : List Control) (evs : List Event) (at : Schedule) → Leads m limits (begin s cs) evs at → HasCounted s evs at
+pub leads_counts : (m : Program) (limits : Limits) (s : State) (cs : List Control) (evs : List Event) (at : Schedule)
+    → Leads m limits (begin s cs) evs at → HasCounted s evs at
 leads_counts m limits s cs evs at l =
     let h = leads_counts_from m limits (begin s cs) evs at l in
     record { state = h.state; commits = h.commits ∙ zero-add _; moves = h.moves ∙ zero-add _; cells = h.cells ∙ zero-add _ }
@@ -130,7 +138,8 @@ pub record PassedAreLarge (m : Program) (limits : Limits) (at : Schedule) : Type
   pub within : at.cells ≤ limits.cells
 
 pub begin_large : (m : Program) (limits : Limits) (s : State) (cs : List Control) → PassedAreLarge m limits (begin s cs)
-begin_large m limits s cs = record { front = (begin s cs).queue; back = []; queued = sym (append-nil _); passed = refl; large = tt; within = omega arith }
+begin_large m limits s cs =
+    record { front = (begin s cs).queue; back = []; queued = sym (append-nil _); passed = refl; large = tt; within = omega arith }
 
 event_cells : (m : Program) (s : State) (p : Process) (d : Decision) → (event_of m s p d).cells ≡ cells m p.goal d
 event_cells m s p (commits k bs rs) = refl
@@ -138,11 +147,13 @@ event_cells m s p (decides_fail rs) = refl
 event_cells m s p (waits_on rs) = refl
 
 -- with fewer processes passed than the queue holds, the front of the queue is none of them
-front_not_passed : (p : Process) (rest front back queue : List Process) → queue ≡ p ∷ rest → queue ≡ front ++ back → length back < length queue → (others : List Process) × (rest ≡ others ++ back)
+front_not_passed : (p : Process) (rest front back queue : List Process) → queue ≡ p ∷ rest → queue ≡ front ++ back
+    → length back < length queue → (others : List Process) × (rest ≡ others ++ back)
 front_not_passed p rest [] back queue e f l = absurd (omega (arith, ap length f))
 front_not_passed p rest (q ∷ front) back queue e f l = let same : rest ≡ front ++ back = cc in (front, same)
 
-pass_large : (n : ℕ) (m : Program) (limits : Limits) (at : Schedule) (p : Process) (rest : List Process) (d : Decision) → IsFront n m limits at p rest d → limits.cells < at.cells + (event_of m at.state p d).cells →
+pass_large : (n : ℕ) (m : Program) (limits : Limits) (at : Schedule) (p : Process) (rest : List Process) (d : Decision)
+    → IsFront n m limits at p rest d → limits.cells < at.cells + (event_of m at.state p d).cells →
     PassedAreLarge m limits at → PassedAreLarge m limits (record at { queue = rest ++ p ∷ []; passed = at.passed + 1 })
 pass_large n m limits at p rest d f i h =
     let others = front_not_passed p rest h.front h.back at.queue f.queued h.queued (rw (← h.passed) f.passed) in
@@ -162,11 +173,28 @@ LargeOn m limits from x = PassedAreLarge m limits from → PassedAreLarge m limi
 large_on : (n : ℕ) (m : Program) (limits : Limits) (at : Schedule) → Holds n m limits at (LeadsOn (LargeOn m limits) at)
 large_on n m limits at = record {
   at_end = tt;
-  at_control = λ o c cs i j x rec h. rec (record { front = h.front; back = h.back; queued = h.queued; passed = h.passed; large = h.large; within = h.within });
+  at_control = λ o c cs i j x rec h. rec (record {
+    front = h.front;
+    back = h.back;
+    queued = h.queued;
+    passed = h.passed;
+    large = h.large;
+    within = h.within;
+  });
   at_pass = λ p rest d f i x rec h. rec (pass_large n m limits at p rest d f i h);
-  at_move = λ p rest d f i x rec h. rec (record { front = (after_event at rest (event_of m at.state p d)).queue; back = []; queued = sym (append-nil _); passed = refl; large = tt; within = i });
+  at_move = λ p rest d f i x rec h. rec (record {
+    front = (after_event at rest (event_of m at.state p d)).queue;
+    back = [];
+    queued = sym
+        (append-nil _);
+    passed = refl;
+    large = tt;
+    within = i;
+  });
 }
 
 -- the processes that went to the back are too large wherever a run comes to
-pub leads_large : (m : Program) (limits : Limits) (from : Schedule) (evs : List Event) (at : Schedule) → PassedAreLarge m limits from → Leads m limits from evs at → PassedAreLarge m limits at
-leads_large m limits from evs at h l = by_rulings l.steps m limits (LargeOn m limits) (λ to i. i) (large_on l.steps m limits) l.count from (evs, at) l.followed h
+pub leads_large : (m : Program) (limits : Limits) (from : Schedule) (evs : List Event) (at : Schedule) → PassedAreLarge m limits from
+    → Leads m limits from evs at → PassedAreLarge m limits at
+leads_large m limits from evs at h l =
+    by_rulings l.steps m limits (LargeOn m limits) (λ to i. i) (large_on l.steps m limits) l.count from (evs, at) l.followed h

@@ -30,27 +30,35 @@ AGoalHasOneDecision = (m : Program) (s : Bindings) (g : Goal Variable) (d d' : D
 
 -- a log has one list of events from a state, and so one last state
 abbrev pub ALogHasOneHistory : Type 0
-ALogHasOneHistory = (m : Program) (s : State) (log : List Entry) (evs evs' : List Event) → IsRun m s log evs → IsRun m s log evs' → evs ≡ evs'
+ALogHasOneHistory =
+    (m : Program) (s : State) (log : List Entry) (evs evs' : List Event) → IsRun m s log evs → IsRun m s log evs' → evs ≡ evs'
 
 -- one worker makes one run under limits and controls
 abbrev pub OneWorkerMakesOneRun : Type 0
-OneWorkerMakesOneRun = (m : Program) (limits : Limits) (s : State) (controls : List Control) (evs evs' : List Event) (at at' : Schedule) → IsOneWorkerRun m limits s controls evs at → IsOneWorkerRun m limits s controls evs' at' → (evs ≡ evs') × (at ≡ at')
+OneWorkerMakesOneRun =
+    (m : Program) (limits : Limits) (s : State) (controls : List Control) (evs evs' : List Event) (at at' : Schedule)
+    → IsOneWorkerRun m limits s controls evs at → IsOneWorkerRun m limits s controls evs' at' → (evs ≡ evs') × (at ≡ at')
 
--- a goal's first state is ordered, and each schedule to which a run from an ordered state comes is sound
+-- a goal's first state is ordered
 abbrev pub AStartIsOrdered : Type 0
 AStartIsOrdered = (vars : ℕ) (gs : List (Goal ℕ)) → IsOrdered (start vars gs)
 
 -- each schedule to which a run from an ordered state comes is sound
 abbrev pub SchedulesAreSound : Type 0
-SchedulesAreSound = (m : Program) (limits : Limits) (s : State) (controls : List Control) (evs : List Event) (at : Schedule) → IsOrdered s → Leads m limits (begin s controls) evs at → IsSoundSchedule at
+SchedulesAreSound =
+    (m : Program) (limits : Limits) (s : State) (controls : List Control) (evs : List Event) (at : Schedule)
+    → IsOrdered s → Leads m limits (begin s controls) evs at → IsSoundSchedule at
 
 -- where a run that is not over has an empty queue, no process is Ready
 abbrev pub AnEmptyQueueLeavesNoneReady : Type 0
-AnEmptyQueueLeavesNoneReady = (at : Schedule) → IsSoundSchedule at → is_over at.state.mode ≡ false → at.queue ≡ [] → list_any (λ p. is_ready p.status) at.state.processes ≡ false
+AnEmptyQueueLeavesNoneReady =
+    (at : Schedule) → IsSoundSchedule at → is_over at.state.mode ≡ false → at.queue ≡ []
+    → list_any (λ p. is_ready p.status) at.state.processes ≡ false
 
 -- What the run of one worker is by the definitions of runs: its log is a run within the limits in which the controls are
 -- kept, and its last schedule has the last state, with the log's counts.
-pub record IsLawfulRun (m : Program) (limits : Limits) (s : State) (controls : List Control) (evs : List Event) (at : Schedule) : Type 0 where
+pub record IsLawfulRun (m : Program) (limits : Limits) (s : State) (controls : List Control) (evs : List Event)
+    (at : Schedule) : Type 0 where
   pub legal : IsRun m s (entries_of evs) evs
   pub last : last_state s evs ≡ at.state
   pub within : IsWithin limits evs
@@ -61,18 +69,29 @@ pub record IsLawfulRun (m : Program) (limits : Limits) (s : State) (controls : L
 
 -- a run of one worker is a run by the definitions
 abbrev pub OneWorkerRunsAreRuns : Type 0
-OneWorkerRunsAreRuns = (m : Program) (limits : Limits) (s : State) (controls : List Control) (evs : List Event) (at : Schedule) → IsOrdered s → s.mode ≡ is_open → AreLawful controls → IsOneWorkerRun m limits s controls evs at → IsLawfulRun m limits s controls evs at
+OneWorkerRunsAreRuns =
+    (m : Program) (limits : Limits) (s : State) (controls : List Control) (evs : List Event) (at : Schedule)
+    → IsOrdered s → s.mode ≡ is_open → AreLawful controls → IsOneWorkerRun m limits s controls evs at
+    → IsLawfulRun m limits s controls evs at
 
 -- a run of one worker ends with the outcome that is read off its last schedule
 abbrev pub OneWorkerRunsEnd : Type 0
-OneWorkerRunsEnd = (m : Program) (limits : Limits) (s : State) (controls : List Control) (evs : List Event) (at : Schedule) → IsOrdered s → s.mode ≡ is_open → IsOneWorkerRun m limits s controls evs at → Ends m limits s evs (outcome_at limits at)
+OneWorkerRunsEnd =
+    (m : Program) (limits : Limits) (s : State) (controls : List Control) (evs : List Event) (at : Schedule)
+    → IsOrdered s → s.mode ≡ is_open → IsOneWorkerRun m limits s controls evs at → Ends m limits s evs (outcome_at limits at)
 
 -- at most one report, with one outcome, is made from a state under limits and controls
 abbrev pub ARunHasOneReport : Type 0
-ARunHasOneReport = (m : Program) (s : State) (limits : Limits) (controls : List Control) (names : List Bytes) (variables : List NamedTerm) (o o' : Outcome) (bytes bytes' : Bytes)
-    → IsOneWorkerReport m s limits controls names variables o bytes → IsOneWorkerReport m s limits controls names variables o' bytes' → (o ≡ o') × (bytes ≡ bytes')
+ARunHasOneReport =
+    (m : Program) (s : State) (limits : Limits) (controls : List Control) (names : List Bytes) (variables : List NamedTerm)
+    (o o' : Outcome) (bytes bytes' : Bytes)
+    → IsOneWorkerReport m s limits controls names variables o bytes → IsOneWorkerReport m s limits controls names variables o' bytes'
+    → (o ≡ o') × (bytes ≡ bytes')
 
 -- the report of a run of one worker is the report of a lawful run
 abbrev pub OneWorkerReportsAreRunReports : Type 0
-OneWorkerReportsAreRunReports = (m : Program) (s : State) (limits : Limits) (controls : List Control) (names : List Bytes) (variables : List NamedTerm) (o : Outcome) (bytes : Bytes)
-    → IsOrdered s → s.mode ≡ is_open → AreLawful controls → IsOneWorkerReport m s limits controls names variables o bytes → IsRunReport m s limits controls names variables o bytes
+OneWorkerReportsAreRunReports =
+    (m : Program) (s : State) (limits : Limits) (controls : List Control) (names : List Bytes) (variables : List NamedTerm) (o : Outcome)
+    (bytes : Bytes)
+    → IsOrdered s → s.mode ≡ is_open → AreLawful controls → IsOneWorkerReport m s limits controls names variables o bytes
+    → IsRunReport m s limits controls names variables o bytes

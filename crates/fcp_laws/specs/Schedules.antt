@@ -15,5 +15,7 @@ AreApart (p ∷ ps) = (process_named ps p.name ≡ None) × AreApart ps
 pub record IsSoundSchedule (at : Schedule) : Type 0 where
   pub ordered : IsOrdered at.state
   pub apart : AreApart at.queue
-  pub are_ready : (name : Proc) (p : Process) → process_named at.queue name ≡ Some p → (process_named at.state.processes name ≡ Some p) × (p.status ≡ ready)
-  pub are_queued : is_over at.state.mode ≡ false → (name : Proc) (p : Process) → process_named at.state.processes name ≡ Some p → p.status ≡ ready → process_named at.queue name ≡ Some p
+  pub are_ready : (name : Proc) (p : Process) → process_named at.queue name ≡ Some p
+      → (process_named at.state.processes name ≡ Some p) × (p.status ≡ ready)
+  pub are_queued : is_over at.state.mode ≡ false → (name : Proc) (p : Process) → process_named at.state.processes name ≡ Some p
+      → p.status ≡ ready → process_named at.queue name ≡ Some p
