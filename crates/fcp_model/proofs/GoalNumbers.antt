@@ -21,7 +21,8 @@ pub length-numbers : (m : Module) (items : List Item) (numbers : List ℕ) → A
 length-numbers m items numbers are = sym (length-map numbers Some) ∙ ap length are ∙ length-map items (number_of_item m)
 
 -- the number at an item's position is the item's
-pub number_at : (m : Module) (items : List Item) (numbers : List ℕ) → AreNumbersOf m items numbers → (i : ℕ) (d : Item) → i < length items → number_of_item m (get_or items i d) ≡ Some (get_or numbers i 0)
+pub number_at : (m : Module) (items : List Item) (numbers : List ℕ) → AreNumbersOf m items numbers → (i : ℕ) (d : Item) → i < length items
+    → number_of_item m (get_or items i d) ≡ Some (get_or numbers i 0)
 number_at m items numbers are i d inside =
     sym (get_or-map (number_of_item m) items i d None inside)
     ∙ ap (λ l. get_or l i None) (sym are)

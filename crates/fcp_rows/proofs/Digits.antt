@@ -61,4 +61,24 @@ pub decimal99 : decimal 99 ≡ 57 ∷ 57 ∷ []
 decimal99 = decimal_step 99 (lit≤ tt) (lit< tt) ∙ ap (λ ds. ds ++ 57 ∷ []) decimal9
 
 -- what is written for the numbers of the examples
-pub ruleset digits = (decimal0, decimal1, decimal2, decimal3, decimal4, decimal5, decimal6, decimal7, decimal8, decimal9, decimal10, decimal11, decimal12, decimal13, decimal14, decimal15, decimal16, decimal17, decimal99)
+pub ruleset digits = (
+  decimal0,
+  decimal1,
+  decimal2,
+  decimal3,
+  decimal4,
+  decimal5,
+  decimal6,
+  decimal7,
+  decimal8,
+  decimal9,
+  decimal10,
+  decimal11,
+  decimal12,
+  decimal13,
+  decimal14,
+  decimal15,
+  decimal16,
+  decimal17,
+  decimal99,
+)

@@ -36,7 +36,8 @@ AreLines n names (ev ∷ evs) [] = ⊥
 both : (a b : Option Bytes) (x y : Bytes) → a ≡ Some x → b ≡ Some y → both_texts a b ≡ Some (x ++ y)
 both a b x y e f = ap (λ o. both_texts o b) e ∙ ap (both_texts (Some x)) f
 
-pub event_lines_are : (n : ℕ) (names : List Bytes) (evs : List Event) (ls : List Bytes) → AreLines n names evs ls → event_lines n names evs ≡ Some (lines ls)
+pub event_lines_are : (n : ℕ) (names : List Bytes) (evs : List Event) (ls : List Bytes) → AreLines n names evs ls
+    → event_lines n names evs ≡ Some (lines ls)
 event_lines_are n names [] [] h = refl
 event_lines_are n names (ev ∷ evs) (l ∷ ls) h = both _ _ (l ++ codes "\n") (lines ls) h.0 (event_lines_are n names evs ls h.1)
 event_lines_are n names [] (l ∷ ls) h = absurd h
@@ -47,14 +48,18 @@ pub log_is : (n : ℕ) (names : List Bytes) (last : ℕ) (evs : List Event) (x :
 log_is n names last evs x e = ap (λ o. option_map (λ y. log_head ++ y ++ codes "end " ++ decimal last ++ codes "\n") o) e
 
 -- the parts of a report, and the whole
-pub record HasTexts (n : ℕ) (names : List Bytes) (variables : List NamedTerm) (m : Program) (s : State) (evs : List Event) (log vars snapshots : Bytes) : Type 0 where
+pub record HasTexts (n : ℕ) (names : List Bytes) (variables : List NamedTerm) (m : Program) (s : State) (evs : List Event)
+    (log vars snapshots : Bytes) : Type 0 where
   pub log_is : log_text n names log_head (last_state s evs).entries evs ≡ Some log
   pub vars_are : variable_lines n names (last_state s evs).bound variables ≡ Some vars
   pub snapshots_are : snapshot_texts n names variables m evs ≡ Some snapshots
 
-pub report_is : (n : ℕ) (names : List Bytes) (variables : List NamedTerm) (m : Program) (s : State) (evs : List Event) (o : Outcome) (controls : List Control) (reached : ℕ)
+pub report_is : (n : ℕ) (names : List Bytes) (variables : List NamedTerm) (m : Program) (s : State) (evs : List Event) (o : Outcome)
+    (controls : List Control) (reached : ℕ)
     (log vars snapshots : Bytes) → HasTexts n names variables m s evs log vars snapshots
-    → report_text n names variables m s evs o controls reached ≡ Some (log ++ ((codes "outcome " ++ outcome_word o ++ codes "\n") ++ (vars ++ (not_reached_lines (drop reached controls) ++ snapshots))))
+    → report_text n names variables m s evs o controls reached
+    ≡ Some (log ++ ((codes "outcome " ++ outcome_word o ++ codes "\n")
+    ++ (vars ++ (not_reached_lines (drop reached controls) ++ snapshots))))
 report_is n names variables m s evs o controls reached log vars snapshots h =
     both _ _ log _ h.log_is
     (both _ _ (codes "outcome " ++ outcome_word o ++ codes "\n") _ refl

@@ -15,7 +15,14 @@ after moves act = record { after = moves; act = act }
 
 -- the endless list with the goal `p(L)` and the controls `after 3 snapshot; after 3 suspend`
 abbrev pub a_snapshot_is_of_its_moment : Type 0
-a_snapshot_is_of_its_moment = Prints (record { program = endless_list; variables = L ∷ []; goal = user 0 (var 1 ∷ []) ∷ []; limits = wide; controls = after 3 Snapshot ∷ after 3 Suspend ∷ [] }) Held (
+a_snapshot_is_of_its_moment =
+    Prints (record {
+      program = endless_list;
+      variables = L ∷ [];
+      goal = user 0 (var 1 ∷ []) ∷ [];
+      limits = wide;
+      controls = after 3 Snapshot ∷ after 3 Suspend ∷ [];
+    }) Held (
     codes "logix log 1"
     ∷ codes "1 commit #0.1 1"
     ∷ codes "2 commit #1.1 0 _0.1=[a|_1.2]"
@@ -34,7 +41,14 @@ a_snapshot_is_of_its_moment = Prints (record { program = endless_list; variables
 
 -- `p(a).` with the goal `p(X)` and the control `after 99 snapshot`
 abbrev pub a_late_control_is_not_reached : Type 0
-a_late_control_is_not_reached = Prints (record { program = procedure p 1 (fact 0 (a ∷ []) ∷ []) ∷ []; variables = X ∷ []; goal = user 0 (var 1 ∷ []) ∷ []; limits = wide; controls = after 99 Snapshot ∷ [] }) Terminated (
+a_late_control_is_not_reached =
+    Prints (record {
+      program = procedure p 1 (fact 0 (a ∷ []) ∷ []) ∷ [];
+      variables = X ∷ [];
+      goal = user 0 (var 1 ∷ []) ∷ [];
+      limits = wide;
+      controls = after 99 Snapshot ∷ [];
+    }) Terminated (
     codes "logix log 1"
     ∷ codes "1 commit #0.1 1 _0.1=a"
     ∷ codes "end 1"
@@ -54,7 +68,8 @@ an_abort_comes_before_the_first_move = Prints (record (looping wide) { controls 
 
 -- `p :- p.` with the goal `p`, three commits and the controls `after 2 suspend; after 2 resume`
 abbrev pub a_resumed_run_goes_on : Type 0
-a_resumed_run_goes_on = Prints (record (looping (record wide { commits = 3 })) { controls = after 2 Suspend ∷ after 2 Resume ∷ [] }) Budget (
+a_resumed_run_goes_on =
+    Prints (record (looping (record wide { commits = 3 })) { controls = after 2 Suspend ∷ after 2 Resume ∷ [] }) Budget (
     codes "logix log 1"
     ∷ codes "1 commit #0.1 1"
     ∷ codes "2 commit #1.1 1"

@@ -11,7 +11,9 @@ use Rattle.fcp_rows.specs.Examples.{a, c, p, q, X, R, int, fact, rule, procedure
 -- `p(a,1). p(X,2) :- otherwise | true. q(c).` with the goal `p(X?,R), q(X)`: the first clause waits, so that `otherwise`
 -- waits too; it holds once the first clause fails
 abbrev pub otherwise_waits_behind_a_waiting_clause : Type 0
-otherwise_waits_behind_a_waiting_clause = Prints (example (procedure p 2 (fact 0 (a ∷ int 1 ∷ []) ∷ rule 1 (var 1 ∷ int 2 ∷ []) (otherwise ∷ []) (true' ∷ []) ∷ []) ∷ procedure q 1 (fact 0 (c ∷ []) ∷ []) ∷ []) (X ∷ R ∷ []) (user 0 (ro 1 ∷ var 2 ∷ []) ∷ user 1 (var 1 ∷ []) ∷ [])) Terminated (
+otherwise_waits_behind_a_waiting_clause =
+    Prints (example (procedure p 2 (fact 0 (a ∷ int 1 ∷ []) ∷ rule 1 (var 1 ∷ int 2 ∷ []) (otherwise ∷ []) (true' ∷ []) ∷ [])
+    ∷ procedure q 1 (fact 0 (c ∷ []) ∷ []) ∷ []) (X ∷ R ∷ []) (user 0 (ro 1 ∷ var 2 ∷ []) ∷ user 1 (var 1 ∷ []) ∷ [])) Terminated (
     codes "logix log 1"
     ∷ codes "1 hang #0.1 _0.1 _0.2"
     ∷ codes "2 commit #0.2 1 _0.1=c wakes #0.1"
@@ -29,7 +31,9 @@ unknown_tester = procedure p 1 (rule 1 (var 1 ∷ []) (kind is_unknown (var 1) �
 
 -- that procedure and `q(a).` with the goal `p(X), q(X)`
 abbrev pub unknown_holds_before_the_binding : Type 0
-unknown_holds_before_the_binding = Prints (example (unknown_tester ∷ procedure q 1 (fact 0 (a ∷ []) ∷ []) ∷ []) (X ∷ []) (user 0 (var 1 ∷ []) ∷ user 1 (var 1 ∷ []) ∷ [])) Terminated (
+unknown_holds_before_the_binding =
+    Prints (example (unknown_tester ∷ procedure q 1 (fact 0 (a ∷ []) ∷ []) ∷ []) (X ∷ [])
+    (user 0 (var 1 ∷ []) ∷ user 1 (var 1 ∷ []) ∷ [])) Terminated (
     codes "logix log 1"
     ∷ codes "1 commit #0.1 1"
     ∷ codes "2 commit #0.2 1 _0.1=a"
@@ -41,7 +45,9 @@ unknown_holds_before_the_binding = Prints (example (unknown_tester ∷ procedure
 
 -- that procedure and `q(a).` with the goal `q(X), p(X)`
 abbrev pub unknown_fails_behind_the_binding : Type 0
-unknown_fails_behind_the_binding = Prints (example (unknown_tester ∷ procedure q 1 (fact 0 (a ∷ []) ∷ []) ∷ []) (X ∷ []) (user 1 (var 1 ∷ []) ∷ user 0 (var 1 ∷ []) ∷ [])) Failed (
+unknown_fails_behind_the_binding =
+    Prints (example (unknown_tester ∷ procedure q 1 (fact 0 (a ∷ []) ∷ []) ∷ []) (X ∷ [])
+    (user 1 (var 1 ∷ []) ∷ user 0 (var 1 ∷ []) ∷ [])) Failed (
     codes "logix log 1"
     ∷ codes "1 commit #0.1 1 _0.1=a"
     ∷ codes "2 fail #0.2"
@@ -65,7 +71,8 @@ a_comparison_fails = Prints (example (at_most_three ∷ []) [] (user 0 (int 4 �
 
 -- that procedure with the goal `p(X), X = 2`
 abbrev pub a_comparison_waits_for_its_operand : Type 0
-a_comparison_waits_for_its_operand = Prints (example (at_most_three ∷ []) (X ∷ []) (user 0 (var 1 ∷ []) ∷ unifies (var 1) (int 2) ∷ [])) Terminated (
+a_comparison_waits_for_its_operand =
+    Prints (example (at_most_three ∷ []) (X ∷ []) (user 0 (var 1 ∷ []) ∷ unifies (var 1) (int 2) ∷ [])) Terminated (
     codes "logix log 1"
     ∷ codes "1 hang #0.1 _0.1"
     ∷ codes "2 commit #0.2 0 _0.1=2 wakes #0.1"

@@ -9,7 +9,14 @@ use Rattle.fcp_rows.specs.Examples.{Example, a, p, q, X, L, fact, rule, procedur
 
 -- `p :- p.` with the goal `p`, and limits
 abbrev pub looping : Limits → Example
-looping limits = record { program = procedure p 0 (rule 0 [] [] (user 0 [] ∷ []) ∷ []) ∷ []; variables = []; goal = user 0 [] ∷ []; limits = limits; controls = [] }
+looping limits =
+    record {
+      program = procedure p 0 (rule 0 [] [] (user 0 [] ∷ []) ∷ []) ∷ [];
+      variables = [];
+      goal = user 0 [] ∷ [];
+      limits = limits;
+      controls = [];
+    }
 
 -- five commits
 abbrev pub a_run_ends_at_its_commits : Type 0
@@ -46,7 +53,14 @@ endless_list = procedure p 1 (rule 2 (var 1 ∷ []) [] (unifies (var 1) (cons a 
 
 -- that program with the goal `p(L)` and 100 cells
 abbrev pub hundred_cells : Example
-hundred_cells = record { program = endless_list; variables = L ∷ []; goal = user 0 (var 1 ∷ []) ∷ []; limits = record wide { cells = 100 }; controls = [] }
+hundred_cells =
+    record {
+      program = endless_list;
+      variables = L ∷ [];
+      goal = user 0 (var 1 ∷ []) ∷ [];
+      limits = record wide { cells = 100 };
+      controls = [];
+    }
 
 -- the report of the run, line by line
 abbrev pub hundred_cells_report : List Bytes

@@ -7,7 +7,8 @@ use Rattle.fcp_rows.specs.Examples.{f, p, X, Y, fact, procedure, example, Prints
 
 -- `p(Y,Y).` with the goal `p(X,f(X))`
 abbrev pub the_occurs_check_fails : Type 0
-the_occurs_check_fails = Prints (example (procedure p 2 (fact 1 (var 1 ∷ var 1 ∷ []) ∷ []) ∷ []) (X ∷ []) (user 0 (var 1 ∷ f (var 1) ∷ []) ∷ [])) Failed (
+the_occurs_check_fails =
+    Prints (example (procedure p 2 (fact 1 (var 1 ∷ var 1 ∷ []) ∷ []) ∷ []) (X ∷ []) (user 0 (var 1 ∷ f (var 1) ∷ []) ∷ [])) Failed (
     codes "logix log 1"
     ∷ codes "1 fail #0.1"
     ∷ codes "end 1"

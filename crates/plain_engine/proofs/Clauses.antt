@@ -1,5 +1,5 @@
 -- The clauses for a call, by their positions in the module.
-use Rattle.std.proofs.Common.{◌≡◌, ℕ, zero, suc, ◌+◌, ◌<◌, ◌≤◌, Bool, true, false, cond, List, [], ◌∷◌, filter, length, map, drop, get_or, Option, Some, None, refl, sym, ap, ◌∙◌, subst, arith, if◌then◌else◌}
+use Rattle.std.proofs.Common.{◌≡◌, ℕ, suc, ◌+◌, ◌<◌, ◌≤◌, Bool, true, false, cond, List, [], ◌∷◌, filter, length, map, drop, Option, Some, None, refl, sym, ap, ◌∙◌, arith, if◌then◌else◌}
 use Rattle.std.specs.Prelude.{slice_get, option_map, nat_eq, nat_le}
 use Rattle.std.specs.List.{filter_map}
 use Rattle.std.proofs.lemmas.Bool.{and_parts}
@@ -11,7 +11,7 @@ use Rattle.fcp_model.specs.declared.source.Clause as read
 use Rattle.fcp_model.specs.declared.source.Module.{Module}
 use Rattle.fcp_model.specs.declared.loaded.ProcedureName.{ProcedureName}
 use Rattle.fcp_model.specs.ProcedureNames.{procedure_names, procedure_name, same_procedure, put_if, positions_from, positions_in}
-use Rattle.fcp_model.specs.Programs.{Clause, Procedure}
+use Rattle.fcp_model.specs.Programs.{Clause}
 use Rattle.fcp_model.specs.Translation.{test_of, clause_of, clauses_called, procedure_of, program_of}
 use Rattle.plain_engine.specs.declared.word.Word.{Word}
 use Rattle.plain_engine.specs.Words.{term_of_word}
@@ -40,7 +40,8 @@ module _ {A : Type 0} (f : read.Clause → A) (h : ProcedureName) (whole : List 
       first = let here : from ≡ from + 0 = omega arith in ap (slice_get whole) here ∙ same 0
 
       go : (b : Bool) → map at_position (positions_from (from + 1) h cs) ≡ map Some (map f (filter is_its cs))
-          → map at_position (put_if b from (positions_from (from + 1) h cs)) ≡ map Some (map f (cond b (c ∷ filter is_its cs) (filter is_its cs)))
+          → map at_position (put_if b from (positions_from (from + 1) h cs))
+          ≡ map Some (map f (cond b (c ∷ filter is_its cs) (filter is_its cs)))
       go true rec = λ i. option_map f (first i) ∷ rec i
       go false rec = rec
 
@@ -53,17 +54,20 @@ module _ (m : Module) (p : ℕ) (h : ProcedureName) (args : List Word) (named : 
       slice_get-map (procedure_of (procedure_names m.clauses) m.clauses) (procedure_names m.clauses) p
       ∙ ap (option_map (procedure_of (procedure_names m.clauses) m.clauses)) named
 
-  clauses_by : (b : Bool) → nat_eq h.arity (length args) ≡ b → clauses_for m p args ≡ cond b (clauses_called (procedure_names m.clauses) h m.clauses) []
+  clauses_by : (b : Bool) → nat_eq h.arity (length args) ≡ b
+      → clauses_for m p args ≡ cond b (clauses_called (procedure_names m.clauses) h m.clauses) []
   clauses_by b e =
       ap (λ o. elim o [ None ↦ [] | Some d ↦ if nat_eq d.arity (length (map term_of_word args)) then d.clauses else [] ]) in_program
       ∙ ap (λ n. if nat_eq h.arity n then clauses_called (procedure_names m.clauses) h m.clauses else []) (length-map args term_of_word)
       ∙ ap (λ x. if x then clauses_called (procedure_names m.clauses) h m.clauses else []) e
 
   -- the procedure has as many arguments as the call
-  pub positions_same : (ps : List ℕ) → slice_get (positions_in m.clauses) p ≡ Some ps → nat_eq h.arity (length args) ≡ true → ArePositionsFor m p args ps
+  pub positions_same : (ps : List ℕ) → slice_get (positions_in m.clauses) p ≡ Some ps → nat_eq h.arity (length args) ≡ true
+      → ArePositionsFor m p args ps
   positions_same ps e same =
       let listed : slice_get (positions_in m.clauses) p ≡ Some (positions_from 0 h m.clauses) =
-      slice_get-map (λ g. positions_from 0 g m.clauses) (procedure_names m.clauses) p ∙ ap (option_map (λ g. positions_from 0 g m.clauses)) named in
+      slice_get-map (λ g. positions_from 0 g m.clauses) (procedure_names m.clauses) p
+      ∙ ap (option_map (λ g. positions_from 0 g m.clauses)) named in
       let is : ps ≡ positions_from 0 h m.clauses = let both = sym e ∙ listed in cc in
       ap (map (λ at. option_map (clause_of (procedure_names m.clauses)) (slice_get m.clauses at))) is
       ∙ positioned (clause_of (procedure_names m.clauses)) h m.clauses
@@ -101,7 +105,8 @@ clauses_short m p args = go (slice_get (procedure_names m.clauses) p) refl
         let none : slice_get (program_of m) p ≡ None =
         slice_get-map (procedure_of (procedure_names m.clauses) m.clauses) (procedure_names m.clauses) p
         ∙ ap (option_map (procedure_of (procedure_names m.clauses) m.clauses)) e in
-        let empty = ap (λ o. length {A = Clause} (elim o [ None ↦ [] | Some d ↦ if nat_eq d.arity (length (map term_of_word args)) then d.clauses else [] ])) none in
+        let empty = ap (λ o. length {A = Clause}
+        (elim o [ None ↦ [] | Some d ↦ if nat_eq d.arity (length (map term_of_word args)) then d.clauses else [] ])) none in
         omega (arith, empty)
     go (Some h) e =
         let is = ap length (clauses_by m p h args e (nat_eq h.arity (length args)) refl) in
@@ -118,7 +123,8 @@ module _ (m : Module) (p : ℕ) (args : List Word) (ps : List ℕ) (e : ArePosit
   positions_short = omega (arith, length-clauses, clauses_short m p args)
 
   found : (j at : ℕ) → slice_get ps j ≡ Some at
-      → Some (option_map (clause_of (procedure_names m.clauses)) (slice_get m.clauses at)) ≡ option_map Some (slice_get (clauses_for m p args) j)
+      → Some (option_map (clause_of (procedure_names m.clauses)) (slice_get m.clauses at))
+      ≡ option_map Some (slice_get (clauses_for m p args) j)
   found j at f =
       let f_at : ℕ → Option Clause = λ k. option_map (clause_of (procedure_names m.clauses)) (slice_get m.clauses k) in
       sym (slice_get-map f_at ps j ∙ ap (option_map f_at) f) ∙ ap (λ xs. slice_get xs j) e ∙ slice_get-map Some (clauses_for m p args) j
@@ -127,20 +133,24 @@ module _ (m : Module) (p : ℕ) (args : List Word) (ps : List ℕ) (e : ArePosit
   pub position_within : (j at : ℕ) → slice_get ps j ≡ Some at → at < length m.clauses
   position_within j at f = go (slice_get m.clauses at) refl (slice_get (clauses_for m p args) j) (found j at f)
     where
-      go : (o : Option read.Clause) → slice_get m.clauses at ≡ o → (q : Option Clause) → Some (option_map (clause_of (procedure_names m.clauses)) (slice_get m.clauses at)) ≡ option_map Some q → at < length m.clauses
+      go : (o : Option read.Clause) → slice_get m.clauses at ≡ o → (q : Option Clause)
+          → Some (option_map (clause_of (procedure_names m.clauses)) (slice_get m.clauses at)) ≡ option_map Some q → at < length m.clauses
       go (Some c) is q same = slice_get_within m.clauses at c is
       go None is None same = cc
-      go None is (Some d) same = let wrong : Some (option_map (clause_of (procedure_names m.clauses)) None) ≡ Some (Some d) = ap (λ o. Some (option_map (clause_of (procedure_names m.clauses)) o)) (sym is) ∙ same in cc
+      go None is (Some d) same = let wrong : Some (option_map (clause_of (procedure_names m.clauses)) None) ≡ Some (Some d) =
+          ap (λ o. Some (option_map (clause_of (procedure_names m.clauses)) o)) (sym is) ∙ same in cc
 
   pub called_at : (j at : ℕ) (c : read.Clause) → slice_get ps j ≡ Some at → slice_get m.clauses at ≡ Some c → IsCalled m p args j c
   called_at j at c f g = record { there = there; left = drop_at (clauses_for m p args) j (clause_of (procedure_names m.clauses) c) there }
     where
-      go : (q : Option Clause) → Some (Some (clause_of (procedure_names m.clauses) c)) ≡ option_map Some q → q ≡ Some (clause_of (procedure_names m.clauses) c)
+      go : (q : Option Clause) → Some (Some (clause_of (procedure_names m.clauses) c)) ≡ option_map Some q
+          → q ≡ Some (clause_of (procedure_names m.clauses) c)
       go None same = cc
       go (Some d) same = cc
 
       there : slice_get (clauses_for m p args) j ≡ Some (clause_of (procedure_names m.clauses) c)
-      there = go (slice_get (clauses_for m p args) j) (ap (λ o. Some (option_map (clause_of (procedure_names m.clauses)) o)) (sym g) ∙ found j at f)
+      there = go (slice_get (clauses_for m p args) j)
+          (ap (λ o. Some (option_map (clause_of (procedure_names m.clauses)) o)) (sym g) ∙ found j at f)
 
 -- a clause of a plain module
 pub plain_at : (m : Module) (at : ℕ) (c : read.Clause) → IsPlain m → slice_get m.clauses at ≡ Some c → IsPlainClause c

@@ -34,16 +34,19 @@ use Rattle.plain_engine.proofs.OldGoals.{child_goals_old, AreOldGoals-more, AreO
 use Rattle.plain_engine.proofs.Reaching.{plain, rest, ruled, sound_schedule, queue_is, old_front, line_added}
 
 -- the clause of a number, from 1
-pub used_clause : (m : Program) (p : ℕ) (ts : List (Term Variable)) (k : ℕ) (c : Clause) → 1 ≤ k → slice_get (clauses_of m p (length ts)) (k - 1) ≡ Some c → clause_used m (user p ts) k ≡ Some c
+pub used_clause : (m : Program) (p : ℕ) (ts : List (Term Variable)) (k : ℕ) (c : Clause) → 1 ≤ k
+    → slice_get (clauses_of m p (length ts)) (k - 1) ≡ Some c → clause_used m (user p ts) k ≡ Some c
 used_clause m p ts zero c h e = absurd (omega arith)
 used_clause m p ts (suc j) c h e = let same : suc j - 1 ≡ j = omega arith in ap (slice_get (clauses_of m p (length ts))) (sym same) ∙ e
 
 module _ (t : Task) (p : Process) (e : Engine) (r : IsReached t (process_of p ∷ []) e) where
   -- the front commits
-  pub commit_reached : (new : Engine) (k : ℕ) (bindings : List Binding) (cost : ℕ) → Commits t e new p k bindings cost → HasRoom t e → IsTask t → 1 ≤ k → (rs : List Variable)
+  pub commit_reached : (new : Engine) (k : ℕ) (bindings : List Binding) (cost : ℕ) → Commits t e new p k bindings cost → HasRoom t e
+      → IsTask t → 1 ≤ k → (rs : List Variable)
       → Decides (program_of t.loaded.now) (bound_of e.store) (process_of p).goal (commits k (binds_of bindings) rs)
       → IsSound (suc e.moves) (bound_of e.store ++ settled (suc e.moves) (binds_of bindings))
-      → cost ≡ cells (program_of t.loaded.now) (process_of p).goal (commits k (binds_of bindings) rs) → e.cells + cost ≤ t.limits.cells → IsReached t [] new
+      → cost ≡ cells (program_of t.loaded.now) (process_of p).goal (commits k (binds_of bindings) rs) → e.cells + cost ≤ t.limits.cells
+      → IsReached t [] new
   commit_reached new k bindings cost did room task first rs (n, is) sound price fits =
       let m : Program = program_of t.loaded.now in
       let bs : Bindings = binds_of bindings in
@@ -52,40 +55,58 @@ module _ (t : Task) (p : Process) (e : Engine) (r : IsReached t (process_of p �
       let ev : Event = event_of m s (process_of p) (commits k bs rs) in
       let to : Schedule = after_event r.at others ev in
       let enough : r.at.cells + ev.cells ≤ t.limits.cells = omega (arith, fits, r.stands.cells, price) in
-      let says : ruling n m t.limits r.at ≡ Some (makes ev to) = ruled t p e r room n (commits k bs rs) is ∙ ap Some (front_makes m t.limits r.at (plain t p e r) (process_of p) others (queue_is t p e r) ev enough) in
+      let says : ruling n m t.limits r.at ≡ Some (makes ev to) =
+      ruled t p e r room n (commits k bs rs) is
+      ∙ ap Some (front_makes m t.limits r.at (plain t p e r) (process_of p) others (queue_is t p e r) ev enough) in
       let front = front_is_ready r.at (sound_schedule t p e r) (process_of p) others (queue_is t p e r) in
       let c : Clause = clause_of (procedure_names t.loaded.now.clauses) did.used in
-      let used : clause_used m (process_of p).goal k ≡ Some c = used_clause m p.procedure (map term_of_word p.args.items) k c first did.is_used in
+      let used : clause_used m (process_of p).goal k ≡ Some c =
+      used_clause m p.procedure (map term_of_word p.args.items) k c first did.is_used in
       let number : suc s.entries ≡ e.moves + 1 = omega (arith, r.stands.entries) in
       let moved : new.moves ≡ suc e.moves = omega (arith, did.moves) in
-      let children : ev.children ≡ children_of (e.moves + 1) (Some c) = ap (λ j. children_of j (clause_used m (process_of p).goal k)) number ∙ ap (children_of (e.moves + 1)) used in
+      let children : ev.children ≡ children_of (e.moves + 1) (Some c) =
+      ap (λ j. children_of j (clause_used m (process_of p).goal k)) number ∙ ap (children_of (e.moves + 1)) used in
       let woken : ev.woken ≡ filter (λ q. is_woken bs q.status) (map waiting_process e.waiting.items) =
       woken_among_waiting bs s.processes ∙ ap (filter (λ q. is_woken bs q.status)) r.stands.waiting in
-      let queue : to.queue ≡ map process_of new.queue.items = ap (λ ps. others ++ ps ++ map made_ready ev.woken) children ∙ (ap (λ ps. others ++ children_of (e.moves + 1) (Some c) ++ map made_ready ps) woken ∙ sym did.queue) in
+      let queue : to.queue ≡ map process_of new.queue.items =
+      ap (λ ps. others ++ ps ++ map made_ready ev.woken) children
+      ∙ (ap (λ ps. others ++ children_of (e.moves + 1) (Some c) ++ map made_ready ps) woken ∙ sym did.queue) in
       let slept : waiting_of ev.after.processes ≡ filter (λ q. not (is_woken bs q.status)) (waiting_of s.processes) =
-      waiting_after_commit bs (suc s.entries) (clause_used m (process_of p).goal k) (process_of p) s.processes (sound_schedule t p e r).ordered.rise front.0 front.1 in
-      let bound : ev.after.bound ≡ bound_of new.store = ap (λ l. l ++ settled (suc s.entries) bs) r.stands.bound ∙ (ap (λ j. bound_of e.store ++ settled j bs) number ∙ sym did.bound) in
-      let woken_names : map (λ q. q.name) ev.woken ≡ map (λ q. q.name) (filter (λ q. is_woken bs q.status) (map waiting_process e.waiting.items)) = ap (map (λ q. q.name)) woken in
+      waiting_after_commit bs (suc s.entries) (clause_used m (process_of p).goal k) (process_of p) s.processes
+      (sound_schedule t p e r).ordered.rise front.0 front.1 in
+      let bound : ev.after.bound ≡ bound_of new.store =
+      ap (λ l. l ++ settled (suc s.entries) bs) r.stands.bound ∙ (ap (λ j. bound_of e.store ++ settled j bs) number ∙ sym did.bound) in
+      let woken_names : map (λ q. q.name) ev.woken
+      ≡ map (λ q. q.name) (filter (λ q. is_woken bs q.status) (map waiting_process e.waiting.items)) = ap (map (λ q. q.name)) woken in
       let shown = did.text.shown in
       let line : Bytes = commit_line (suc s.entries) p.name k shown (map (λ q. q.name) ev.woken) in
       let texts : Gives (λ j. bound_places_text j t.names.now ev.after.bound ev.after.entries bs) shown =
-      gives_same (λ j. bound_places_text j t.names.now (bound_of new.store) (e.moves + 1) bs) (λ j. bound_places_text j t.names.now ev.after.bound ev.after.entries bs) shown
-      (λ j. ap (λ b. bound_places_text j t.names.now b (e.moves + 1) bs) (sym bound) ∙ ap (λ x. bound_places_text j t.names.now ev.after.bound x bs) (sym number)) did.text.given in
+      gives_same (λ j. bound_places_text j t.names.now (bound_of new.store) (e.moves + 1) bs)
+      (λ j. bound_places_text j t.names.now ev.after.bound ev.after.entries bs) shown
+      (λ j. ap (λ b. bound_places_text j t.names.now b (e.moves + 1) bs) (sym bound)
+      ∙ ap (λ x. bound_places_text j t.names.now ev.after.bound x bs) (sym number)) did.text.given in
       let given : Gives (λ j. event_line j t.names.now ev) line =
       gives_map _ (λ x. decimal (suc s.entries) ++ codes " " ++ x ++ codes "\n") _
-      (gives_map (λ j. bound_places_text j t.names.now ev.after.bound ev.after.entries bs) (λ b. codes "commit " ++ process_text p.name ++ codes " " ++ decimal k ++ b ++ woken_text (map (λ q. q.name) ev.woken)) shown texts) in
+      (gives_map (λ j. bound_places_text j t.names.now ev.after.bound ev.after.entries bs)
+      (λ b. codes "commit " ++ process_text p.name ++ codes " " ++ decimal k ++ b ++ woken_text (map (λ q. q.name) ev.woken)) shown
+      texts) in
       let behind : new.text.items ≡ e.text.items ++ line =
-      did.text.behind ∙ (ap (λ j. e.text.items ++ commit_line j p.name k shown (map (λ q. q.name) (filter (λ q. is_woken bs q.status) (map waiting_process e.waiting.items)))) (sym number)
+      did.text.behind ∙ (ap (λ j. e.text.items
+      ++ commit_line j p.name k shown (map (λ q. q.name)
+      (filter (λ q. is_woken bs q.status) (map waiting_process e.waiting.items)))) (sym number)
       ∙ ap (λ ns. e.text.items ++ commit_line (suc s.entries) p.name k shown ns) (sym woken_names)) in
       let later : e.moves ≤ new.moves = omega (arith, did.moves) in
       let born : AreOldGoals (length (procedure_names t.loaded.now.clauses)) new.moves ev.children =
-      subst (AreOldGoals (length (procedure_names t.loaded.now.clauses)) new.moves) (sym (children ∙ ap (λ j. children_of j (Some c)) (sym did.moves)))
+      subst (AreOldGoals (length (procedure_names t.loaded.now.clauses)) new.moves)
+      (sym (children ∙ ap (λ j. children_of j (Some c)) (sym did.moves)))
       (child_goals_old (procedure_names t.loaded.now.clauses) new.moves 1 did.used.vars did.used.body
       (body_plain did.used (plain_at t.loaded.now did.position did.used task.plain did.in_text))
       (body_called t.loaded.now did.position did.used task.called did.in_text)) in
       let risen : AreOldGoals (length (procedure_names t.loaded.now.clauses)) new.moves (map made_ready ev.woken) =
-      AreOldGoals-ready _ new.moves ev.woken (subst (AreOldGoals (length (procedure_names t.loaded.now.clauses)) new.moves) (sym (woken_among_waiting bs s.processes))
-      (AreOldGoals-filter _ new.moves (λ q. is_woken bs q.status) (waiting_of s.processes) (AreOldGoals-more _ e.moves new.moves (waiting_of s.processes) later r.old_waiting))) in
+      AreOldGoals-ready _ new.moves ev.woken (subst (AreOldGoals (length (procedure_names t.loaded.now.clauses)) new.moves)
+      (sym (woken_among_waiting bs s.processes))
+      (AreOldGoals-filter _ new.moves (λ q. is_woken bs q.status) (waiting_of s.processes)
+      (AreOldGoals-more _ e.moves new.moves (waiting_of s.processes) later r.old_waiting))) in
       record {
         events = r.events ++ ev ∷ [];
         at = to;
@@ -103,8 +124,14 @@ module _ (t : Task) (p : Process) (e : Engine) (r : IsReached t (process_of p �
           controls = r.stands.controls;
         };
         lines = line_added t.names.now r.events ev log_head e.text.items new.text.items line r.lines given behind;
-        sound = subst (λ j. IsSound j (bound_of new.store)) (sym moved) (subst (IsSound (suc e.moves)) (ap (λ j. bound_of e.store ++ settled j bs) (sym (add-one e.moves)) ∙ sym did.bound) sound);
-        old_queue = AreOldGoals-append _ new.moves (others ++ ev.children) (map made_ready ev.woken) (AreOldGoals-append _ new.moves others ev.children (AreOldGoals-more _ e.moves new.moves others later (old_front t p e r).1) born) risen;
-        old_waiting = subst (AreOldGoals (length (procedure_names t.loaded.now.clauses)) new.moves) (sym slept) (AreOldGoals-filter _ new.moves (λ q. not (is_woken bs q.status)) (waiting_of s.processes) (AreOldGoals-more _ e.moves new.moves (waiting_of s.processes) later r.old_waiting));
+        sound = subst (λ j. IsSound j (bound_of new.store)) (sym moved)
+            (subst (IsSound (suc e.moves)) (ap (λ j. bound_of e.store ++ settled j bs) (sym (add-one e.moves)) ∙ sym did.bound) sound);
+        old_queue = AreOldGoals-append _ new.moves (others ++ ev.children) (map made_ready ev.woken)
+            (AreOldGoals-append _ new.moves others ev.children
+            (AreOldGoals-more _ e.moves new.moves others later (old_front t p e r).1) born) risen;
+        old_waiting =
+            subst (AreOldGoals (length (procedure_names t.loaded.now.clauses)) new.moves) (sym slept)
+            (AreOldGoals-filter _ new.moves (λ q. not (is_woken bs q.status)) (waiting_of s.processes)
+            (AreOldGoals-more _ e.moves new.moves (waiting_of s.processes) later r.old_waiting));
         within = omega (arith, fits, did.used_cells);
       }

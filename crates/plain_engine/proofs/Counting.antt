@@ -1,16 +1,14 @@
 -- Without controls each event of a run is a move.
-use Rattle.std.proofs.Common.{◌≡◌, ℕ, true, cond, List, [], ◌∷◌, length, refl, sym, ap, ◌∙◌, arith}
-use Rattle.std.proofs.lemmas.List.Sums.{sum_by-cons}
+use Rattle.std.proofs.Common.{◌≡◌, ℕ, true, List, [], ◌∷◌, refl, sym, ◌∙◌}
 use Rattle.fcp_model.specs.declared.run.Limits.{Limits}
 use Rattle.fcp_model.specs.Programs.{Program}
 use Rattle.fcp_model.specs.Decisions.{Decision, commits, decides_fail, waits_on}
 use Rattle.fcp_model.specs.States.{State, Process}
 use Rattle.fcp_model.specs.Events.{Event, event_of}
-use Rattle.fcp_model.specs.Runs.{entries_of}
-use Rattle.fcp_model.specs.Bounds.{is_move, moves_in, one}
+use Rattle.fcp_model.specs.Bounds.{is_move}
 use Rattle.fcp_model.specs.OneWorker.{Schedule, begin, Leads}
 use Rattle.fcp_laws.proofs.Rulings.{Holds}
-use Rattle.fcp_laws.proofs.ScheduleCounts.{LeadsOn, by_rulings, leads_counts}
+use Rattle.fcp_laws.proofs.ScheduleCounts.{LeadsOn, by_rulings}
 
 -- each event is a move
 abbrev pub AreMoves : List Event → Type 0
@@ -33,5 +31,7 @@ moves_on n m limits at = record {
   at_move = λ p rest d f i x rec none. (event_moves m at.state p d, rec none);
 }
 
-pub all_moves : (m : Program) (limits : Limits) (s : State) (evs : List Event) (at : Schedule) → Leads m limits (begin s []) evs at → AreMoves evs
-all_moves m limits s evs at l = by_rulings l.steps m limits MovesOn (λ to none. tt) (moves_on l.steps m limits) l.count (begin s []) (evs, at) l.followed refl
+pub all_moves : (m : Program) (limits : Limits) (s : State) (evs : List Event) (at : Schedule) → Leads m limits (begin s []) evs at
+    → AreMoves evs
+all_moves m limits s evs at l =
+    by_rulings l.steps m limits MovesOn (λ to none. tt) (moves_on l.steps m limits) l.count (begin s []) (evs, at) l.followed refl

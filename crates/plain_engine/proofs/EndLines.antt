@@ -39,7 +39,8 @@ both-assoc (Some a) (Some b) None = refl
 both-assoc (Some a) (Some b) (Some c) = ap Some (append_assoc a b c)
 
 -- one variable more
-named_from-append : (k : ℕ) (vs : List (Option Sym)) (v : Option Sym) → named_from k (vs ++ v ∷ []) ≡ named_from k vs ++ (v, var (placed 0 (k + length vs))) ∷ []
+named_from-append : (k : ℕ) (vs : List (Option Sym)) (v : Option Sym)
+    → named_from k (vs ++ v ∷ []) ≡ named_from k vs ++ (v, var (placed 0 (k + length vs))) ∷ []
 named_from-append k [] v = let here : k ≡ k + 0 = omega arith in ap (λ j. (v, var (placed 0 j)) ∷ []) here
 named_from-append k (u ∷ vs) v =
     let on : (k + 1) + length vs ≡ k + suc (length vs) = omega arith in
@@ -49,19 +50,23 @@ module _ (names : List Bytes) (s : Bindings) where
   variable_lines-append : (n : ℕ) (vs : List NamedTerm) (v : NamedTerm)
       → variable_lines n names s (vs ++ v ∷ []) ≡ both_texts (variable_lines n names s vs) (variable_line n names s v.0 v.1)
   variable_lines-append n [] v = both-nil (variable_line n names s v.0 v.1) ∙ sym (nil-both _)
-  variable_lines-append n (u ∷ vs) v = ap (both_texts (variable_line n names s u.0 u.1)) (variable_lines-append n vs v) ∙ sym (both-assoc _ _ _)
+  variable_lines-append n (u ∷ vs) v =
+      ap (both_texts (variable_line n names s u.0 u.1)) (variable_lines-append n vs v) ∙ sym (both-assoc _ _ _)
 
   -- the line of one variable more
   pub variable_added : (vs : List (Option Sym)) (i : ℕ) (v d : Option Sym) (one two three : Bytes) → i < length vs → v ≡ get_or vs i d
-      → Adds one two (λ n. variable_lines n names s (goal_variables (take i vs))) → Adds two three (λ n. variable_line n names s v (var (placed 0 (i + 1))))
+      → Adds one two (λ n. variable_lines n names s (goal_variables (take i vs)))
+      → Adds two three (λ n. variable_line n names s v (var (placed 0 (i + 1))))
       → Adds one three (λ n. variable_lines n names s (goal_variables (take (i + 1) vs)))
   variable_added vs i v d one two three h at f g =
       let more : take (i + 1) vs ≡ take i vs ++ v ∷ [] = take_more vs i d h ∙ ap (λ x. take i vs ++ x ∷ []) (sym at) in
       let long : length (take i vs) ≡ i = length-take-le i vs (omega arith) in
       let number : 1 + length (take i vs) ≡ i + 1 = omega (arith, long) in
       let all : goal_variables (take (i + 1) vs) ≡ goal_variables (take i vs) ++ (v, var (placed 0 (i + 1))) ∷ [] =
-      ap goal_variables more ∙ named_from-append 1 (take i vs) v ∙ ap (λ j. goal_variables (take i vs) ++ (v, var (placed 0 j)) ∷ []) number in
-      adds_both _ _ _ one two three f g (λ n. sym (ap (variable_lines n names s) all ∙ variable_lines-append n (goal_variables (take i vs)) (v, var (placed 0 (i + 1)))))
+      ap goal_variables more ∙ named_from-append 1 (take i vs) v
+      ∙ ap (λ j. goal_variables (take i vs) ++ (v, var (placed 0 j)) ∷ []) number in
+      adds_both _ _ _ one two three f g (λ n. sym
+      (ap (variable_lines n names s) all ∙ variable_lines-append n (goal_variables (take i vs)) (v, var (placed 0 (i + 1)))))
 
   -- the line of a variable with a name, piece by piece
   pub line_added : {T E : Type 0} (k : ℕ) (v : Option Sym) (name : Sym) (r : Result T E) (t0 t1 t2 t3 t4 : Bytes) → v ≡ Some name
@@ -70,9 +75,12 @@ module _ (names : List Bytes) (s : Bindings) where
   line_added k v name (Err x) t0 t1 t2 t3 t4 is e1 e2 a e4 = tt
   line_added k v name (Ok x) t0 t1 t2 t3 t4 is e1 e2 a e4 = record {
     added = name_at names name.0 ++ codes " = " ++ a.added ++ codes "\n";
-    behind = e4 ∙ (ap (λ l. l ++ codes "\n") (a.behind ∙ ap (λ l. l ++ a.added) (e2 ∙ ap (λ l. l ++ codes " = ") e1)) ∙ simp append_assoc refl);
-    given = gives_same _ (λ n. variable_line n names s v (var (placed 0 k))) _ (λ n. sym (ap (λ w. variable_line n names s w (var (placed 0 k))) is))
-        (gives_map (λ n. cut_text n names s 65536 (var (placed 0 k))) (λ x. name_at names name.0 ++ codes " = " ++ x ++ codes "\n") a.added a.given);
+    behind = e4 ∙ (ap (λ l. l ++ codes "\n") (a.behind ∙ ap (λ l. l ++ a.added) (e2 ∙ ap (λ l. l ++ codes " = ") e1))
+        ∙ simp append_assoc refl);
+    given = gives_same _ (λ n. variable_line n names s v (var (placed 0 k))) _
+        (λ n. sym (ap (λ w. variable_line n names s w (var (placed 0 k))) is))
+        (gives_map (λ n. cut_text n names s 65536 (var (placed 0 k)))
+        (λ x. name_at names name.0 ++ codes " = " ++ x ++ codes "\n") a.added a.given);
   }
 
 -- whether a process waits
@@ -80,15 +88,18 @@ none_waits : (ps : List run.Process) → waiting_of ps ≡ [] → list_any (λ p
 none_waits [] e = refl
 none_waits (p ∷ ps) e = go (is_waiting p.status) e (none_waits ps)
   where
-    go : (b : Bool) → cond b (p ∷ waiting_of ps) (waiting_of ps) ≡ [] → (waiting_of ps ≡ [] → list_any (λ p. is_waiting p.status) ps ≡ false) → (b || list_any (λ p. is_waiting p.status) ps) ≡ false
+    go : (b : Bool) → cond b (p ∷ waiting_of ps) (waiting_of ps) ≡ []
+        → (waiting_of ps ≡ [] → list_any (λ p. is_waiting p.status) ps ≡ false) → (b || list_any (λ p. is_waiting p.status) ps) ≡ false
     go true e rec = cc
     go false e rec = rec e
 
-one_waits : (ps : List run.Process) (q : run.Process) (qs : List run.Process) → waiting_of ps ≡ q ∷ qs → list_any (λ p. is_waiting p.status) ps ≡ true
+one_waits : (ps : List run.Process) (q : run.Process) (qs : List run.Process) → waiting_of ps ≡ q ∷ qs
+    → list_any (λ p. is_waiting p.status) ps ≡ true
 one_waits [] q qs e = cc
 one_waits (p ∷ ps) q qs e = go (is_waiting p.status) e (one_waits ps q qs)
   where
-    go : (b : Bool) → cond b (p ∷ waiting_of ps) (waiting_of ps) ≡ q ∷ qs → (waiting_of ps ≡ q ∷ qs → list_any (λ p. is_waiting p.status) ps ≡ true) → (b || list_any (λ p. is_waiting p.status) ps) ≡ true
+    go : (b : Bool) → cond b (p ∷ waiting_of ps) (waiting_of ps) ≡ q ∷ qs
+        → (waiting_of ps ≡ q ∷ qs → list_any (λ p. is_waiting p.status) ps ≡ true) → (b || list_any (λ p. is_waiting p.status) ps) ≡ true
     go true e rec = refl
     go false e rec = rec e
 

@@ -41,7 +41,8 @@ module _ (vars : ℕ) where
       let others : sum_by term_cells (map term_of ts) ≡ 0 = all_flat_cells ts parts.1 in
       sum_by-cons term_cells (term_of t) (map term_of ts) ∙ omega (arith, one, others)
 
-user_cells : (hs : List ProcedureName) (name : Sym) (n : ℕ) (ts : List (Term ℕ)) → length ts ≡ n → sum_by term_cells ts ≡ 0 → goal_cells (user_goal hs name n ts) ≡ 4 + n
+user_cells : (hs : List ProcedureName) (name : Sym) (n : ℕ) (ts : List (Term ℕ)) → length ts ≡ n → sum_by term_cells ts ≡ 0
+    → goal_cells (user_goal hs name n ts) ≡ 4 + n
 user_cells hs name zero ts long free = go name.0
   where
     go : (k : ℕ) → goal_cells (elim k [ zero ↦ true' | suc j ↦ user (position_or_len (same_procedure (head_called name 0)) hs) ts ]) ≡ 4 + 0
@@ -50,15 +51,19 @@ user_cells hs name zero ts long free = go name.0
 user_cells hs name (suc n) ts long free = omega (arith, long, free)
 
 -- the cells of a call of strings and variables
-pub plain_call_cells : (vars : ℕ) (call : Call) (name : Sym) (args : List source.Term) (n : ℕ) → call ≡ User name args → n ≡ length args → is_plain_call vars call ≡ true
+pub plain_call_cells : (vars : ℕ) (call : Call) (name : Sym) (args : List source.Term) (n : ℕ) → call ≡ User name args → n ≡ length args
+    → is_plain_call vars call ≡ true
     → (hs : List ProcedureName) → goal_cells (goal_of hs call) ≡ 4 + n
 plain_call_cells vars call name args n is long plain hs =
     let flat : are_flat vars args ≡ true = subst (λ c. is_plain_call vars c ≡ true) is plain in
-    let free : sum_by term_cells (map term_of args) ≡ 0 = all_flat_cells vars args (and_parts (nat_le (length args) 64) (list_all (is_flat vars) args) flat).1 in
-    ap (λ c. goal_cells (goal_of hs c)) is ∙ (user_cells hs name (length args) (map term_of args) (length-map args term_of) free ∙ ap (λ k. 4 + k) (sym long))
+    let free : sum_by term_cells (map term_of args) ≡ 0 =
+    all_flat_cells vars args (and_parts (nat_le (length args) 64) (list_all (is_flat vars) args) flat).1 in
+    ap (λ c. goal_cells (goal_of hs c)) is ∙ (user_cells hs name (length args) (map term_of args) (length-map args term_of) free
+    ∙ ap (λ k. 4 + k) (sym long))
 
 -- the cells of a clause of strings and variables
-pub plain_clause_cells : (c : read.Clause) (two body : ℕ) → is_plain_clause c ≡ true → two ≡ c.vars → ((hs : List ProcedureName) → sum_by goal_cells (goals_of hs c.body) ≡ body)
+pub plain_clause_cells : (c : read.Clause) (two body : ℕ) → is_plain_clause c ≡ true → two ≡ c.vars
+    → ((hs : List ProcedureName) → sum_by goal_cells (goals_of hs c.body) ≡ body)
     → (hs : List ProcedureName) → clause_cells (clause_of hs c) ≡ 2 * two + body
 plain_clause_cells c two body plain is costs hs =
     let one = and_parts (nat_le c.vars 250 && are_flat c.vars c.args && is_empty c.guard) (are_plain_items c.vars c.body) plain in

@@ -20,7 +20,9 @@ pub lookup_is : (es : List (Place × Word)) (p : Place) → option_map term_of_w
 lookup_is [] p = refl
 lookup_is (e ∷ es) p = go (is_same_place p e.0) (is_same_place e.0 p) (same_back p e.0) (lookup_is es p)
   where
-    go : (a b : Bool) → a ≡ b → option_map term_of_word (lookup (is_same_place p) es) ≡ find (bound_of es) (made p) → option_map term_of_word (cond a (Some e.1) (lookup (is_same_place p) es)) ≡ cond b (Some (term_of_word e.1)) (find (bound_of es) (made p))
+    go : (a b : Bool) → a ≡ b → option_map term_of_word (lookup (is_same_place p) es) ≡ find (bound_of es) (made p)
+        → option_map term_of_word (cond a (Some e.1) (lookup (is_same_place p) es))
+        ≡ cond b (Some (term_of_word e.1)) (find (bound_of es) (made p))
     go true true h rec = refl
     go false false h rec = rec
     go true false h rec = cc

@@ -41,20 +41,44 @@ module _ (m : Program) (limits : Limits) (at : Schedule) (plain : IsPlainSchedul
   module _ (p : Process) (rest : List Process) (queue : at.queue ≡ p ∷ rest) where
     has_room : at.commits < limits.commits → at.moves < limits.moves → at.passed < length at.queue
         → (nat_le limits.commits at.commits || nat_le limits.moves at.moves || nat_le (length at.queue) at.passed) ≡ false
-    has_room a b c = rw (at_least_false limits.commits at.commits a, at_least_false limits.moves at.moves b, at_least_false (length at.queue) at.passed c) refl
+    has_room a b c =
+        rw (
+          at_least_false limits.commits at.commits a,
+          at_least_false limits.moves at.moves b,
+          at_least_false
+              (length at.queue) at.passed c,
+        ) refl
 
     -- the front's entry is looked at
-    pub front_ruled : at.commits < limits.commits → at.moves < limits.moves → at.passed < length at.queue → (n : ℕ) (d : Decision) → decide n m at.state.bound p.goal ≡ Some d
+    pub front_ruled : at.commits < limits.commits → at.moves < limits.moves → at.passed < length at.queue → (n : ℕ) (d : Decision)
+        → decide n m at.state.bound p.goal ≡ Some d
         → ruling n m limits at ≡ Some (front_ruling limits at p rest (event_of m at.state p d))
     front_ruled a b c n d e =
         by_queue n ∙ (ap (queue_ruling n m limits at) queue
-        ∙ (ap (λ (x : Bool). elim x [ true ↦ Some ends | _ ↦ option_map (λ (y : Decision). front_ruling limits at p rest (event_of m at.state p y)) (decide n m at.state.bound p.goal) ]) (has_room a b c)
+        ∙ (ap (λ (x : Bool). elim x [
+          | true ↦ Some ends
+          | _ ↦ option_map
+              (λ (y : Decision). front_ruling limits at p rest (event_of m at.state p y))
+              (decide n m at.state.bound p.goal)
+        ]) (has_room a b c)
         ∙ ap (option_map (λ (y : Decision). front_ruling limits at p rest (event_of m at.state p y))) e))
 
     -- it goes to the back
-    pub front_passes : (ev : Event) → limits.cells < at.cells + ev.cells → front_ruling limits at p rest ev ≡ passes (record at { queue = rest ++ p ∷ []; passed = at.passed + 1 })
-    front_passes ev h = ap (λ (x : Bool). elim x [ true ↦ passes (record at { queue = rest ++ p ∷ []; passed = at.passed + 1 }) | _ ↦ makes ev (after_event at rest ev) ]) (lt-ltb limits.cells (at.cells + ev.cells) h)
+    pub front_passes : (ev : Event) → limits.cells < at.cells + ev.cells
+        → front_ruling limits at p rest ev ≡ passes (record at { queue = rest ++ p ∷ []; passed = at.passed + 1 })
+    front_passes ev h =
+        ap (λ (x : Bool). elim x [
+          | true ↦ passes (record at { queue = rest ++ p ∷ []; passed = at.passed + 1 })
+          | _ ↦ makes ev
+              (after_event at rest ev)
+        ]) (lt-ltb limits.cells (at.cells + ev.cells) h)
 
     -- or its entry is made
-    pub front_makes : (ev : Event) → at.cells + ev.cells ≤ limits.cells → front_ruling limits at p rest ev ≡ makes ev (after_event at rest ev)
-    front_makes ev h = ap (λ (x : Bool). elim x [ true ↦ passes (record at { queue = rest ++ p ∷ []; passed = at.passed + 1 }) | _ ↦ makes ev (after_event at rest ev) ]) (le-ltb limits.cells (at.cells + ev.cells) h)
+    pub front_makes : (ev : Event) → at.cells + ev.cells ≤ limits.cells
+        → front_ruling limits at p rest ev ≡ makes ev (after_event at rest ev)
+    front_makes ev h =
+        ap (λ (x : Bool). elim x [
+          | true ↦ passes (record at { queue = rest ++ p ∷ []; passed = at.passed + 1 })
+          | _ ↦ makes ev
+              (after_event at rest ev)
+        ]) (le-ltb limits.cells (at.cells + ev.cells) h)

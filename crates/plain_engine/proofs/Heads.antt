@@ -41,8 +41,10 @@ nil_not_flat vars f = let e = fold-Nil Bool (flat_step vars) in cc
 module _ (vars : ℕ) where
   pub marks_word : (met : ℕ) (w : Word) → is_flat vars (source_of w) ≡ true → Marks met w
   marks_word met (Text t) f = record { item = rw (fold-Str (Term ℕ) term_step t) refl; after = rw (fold-Str (Term ℕ) term_step t) refl }
-  marks_word met (Var (Own k)) f = record { item = rw (fold-Var (Term ℕ) term_step k) (unmarked (nat_lt met k) k); after = rw (fold-Var (Term ℕ) term_step k) refl }
-  marks_word met (ReadOnly (Own k)) f = record { item = rw (fold-Ro (Term ℕ) term_step k) refl; after = rw (fold-Ro (Term ℕ) term_step k) refl }
+  marks_word met (Var (Own k)) f =
+      record { item = rw (fold-Var (Term ℕ) term_step k) (unmarked (nat_lt met k) k); after = rw (fold-Var (Term ℕ) term_step k) refl }
+  marks_word met (ReadOnly (Own k)) f =
+      record { item = rw (fold-Ro (Term ℕ) term_step k) refl; after = rw (fold-Ro (Term ℕ) term_step k) refl }
   marks_word met (Var (Made p)) f = absurd (nil_not_flat vars f)
   marks_word met (ReadOnly (Made p)) f = absurd (nil_not_flat vars f)
 
@@ -91,18 +93,22 @@ flat_at c i t p e =
     passes_at (is_flat c.vars) c.args i t (and_parts _ _ d.1).1 e
 
 pub drop_at : {X : Type 0} (xs : List X) (i : ℕ) (x : X) → slice_get xs i ≡ Some x → drop i xs ≡ x ∷ drop (i + 1) xs
-drop_at xs i x e = rw (add-one, drop-cons xs i x (slice_get_within xs i x e)) (ap (λ y. y ∷ drop (suc i) xs) (get_or_from_slice_get xs i x x e))
+drop_at xs i x e =
+    rw (add-one, drop-cons xs i x (slice_get_within xs i x e)) (ap (λ y. y ∷ drop (suc i) xs) (get_or_from_slice_get xs i x x e))
 
 -- the pairs that are left from a position on
 abbrev pub pairs_left : List Word → List source.Term → ℕ → ℕ → List Pair
 pairs_left args head met at = head_pairs met (map term_of_word (drop at args)) (map term_of (drop at head))
 
-pub one_left : (vars : ℕ) (args : List Word) (head : List source.Term) (met at : ℕ) (arg w : Word) (t : source.Term) → slice_get args at ≡ Some arg → slice_get head at ≡ Some t → t ≡ source_of w → is_flat vars t ≡ true
+pub one_left : (vars : ℕ) (args : List Word) (head : List source.Term) (met at : ℕ) (arg w : Word) (t : source.Term)
+    → slice_get args at ≡ Some arg → slice_get head at ≡ Some t → t ≡ source_of w → is_flat vars t ≡ true
     → pairs_left args head met at ≡ (term_of_word arg, marked_first met w) ∷ pairs_left args head (met_after met w) (at + 1)
 one_left vars args head met at arg w t a h e f =
     let m = marks_word vars met w (sym (ap (is_flat vars) e) ∙ f) in
-    (λ i. head_pairs met (map term_of_word (drop_at args at arg a i)) (map term_of ((drop_at head at t h ∙ ap (λ x. x ∷ drop (at + 1) head) e) i)))
-    ∙ (λ i. (term_of_word arg, m.item i) ∷ head_pairs (m.after i) (map term_of_word (drop (at + 1) args)) (map term_of (drop (at + 1) head)))
+    (λ i. head_pairs met (map term_of_word (drop_at args at arg a i))
+    (map term_of ((drop_at head at t h ∙ ap (λ x. x ∷ drop (at + 1) head) e) i)))
+    ∙ (λ i. (term_of_word arg, m.item i) ∷ head_pairs (m.after i) (map term_of_word (drop (at + 1) args))
+    (map term_of (drop (at + 1) head)))
 
 pub no_args_left : (args : List Word) (head : List source.Term) (met at : ℕ) → slice_get args at ≡ None → pairs_left args head met at ≡ []
 no_args_left args head met at e = ap (λ xs. head_pairs met (map term_of_word xs) (map term_of (drop at head))) (gone args at e)
@@ -113,7 +119,9 @@ no_args_left args head met at e = ap (λ xs. head_pairs met (map term_of_word xs
     gone (x ∷ xs) (suc i) e = gone xs i e
 
 pub no_head_left : (args : List Word) (head : List source.Term) (met at : ℕ) → length head ≤ at → pairs_left args head met at ≡ []
-no_head_left args head met at h = ap (λ xs. head_pairs met (map term_of_word (drop at args)) (map term_of xs)) (drop_of_length-le head h) ∙ none (map term_of_word (drop at args))
+no_head_left args head met at h =
+    ap (λ xs. head_pairs met (map term_of_word (drop at args)) (map term_of xs)) (drop_of_length-le head h)
+    ∙ none (map term_of_word (drop at args))
   where
     none : (ts : List (Term Variable)) → head_pairs met ts [] ≡ []
     none [] = refl
@@ -124,21 +132,27 @@ pub record HeadComes (s : Bindings) (start now : Trail) (args : List Word) (head
   pub reads : List Variable
   pub more_reads : read_by now ≡ read_by start ++ reads
   pub steps : ℕ
-  pub comes : (n : ℕ) → steps ≤ n → unify (at + n) s [] [] (head_pairs 0 (map term_of_word args) (map term_of head)) ≡ unify n s (bound_by now) reads (pairs_left args head met at)
+  pub comes : (n : ℕ) → steps ≤ n
+      → unify (at + n) s [] [] (head_pairs 0 (map term_of_word args) (map term_of head))
+      ≡ unify n s (bound_by now) reads (pairs_left args head met at)
 
-pub comes_first : (s : Bindings) (start : Trail) (args : List Word) (head : List source.Term) → bound_by start ≡ [] → HeadComes s start start args head 0 0
+pub comes_first : (s : Bindings) (start : Trail) (args : List Word) (head : List source.Term) → bound_by start ≡ []
+    → HeadComes s start start args head 0 0
 comes_first s start args head e = record {
   reads = [];
   more_reads = append_none (read_by start);
   steps = 0;
-  comes = λ n h. let z : 0 + n ≡ n = omega arith in rw z (ap (λ bs. unify n s bs [] (head_pairs 0 (map term_of_word args) (map term_of head))) (sym e));
+  comes = λ n h. let z : 0 + n ≡ n = omega arith in
+      rw z (ap (λ bs. unify n s bs [] (head_pairs 0 (map term_of_word args) (map term_of head))) (sym e));
 }
   where
     append_none : (xs : List Variable) → xs ≡ xs ++ []
     append_none [] = refl
     append_none (x ∷ xs) = ap (λ r. x ∷ r) (append_none xs)
 
-module _ (s : Bindings) (start old new : Trail) (args : List Word) (head : List source.Term) (met at : ℕ) (arg w : Word) (left : pairs_left args head met at ≡ (term_of_word arg, marked_first met w) ∷ pairs_left args head (met_after met w) (at + 1)) (c : HeadComes s start old args head met at) where
+module _ (s : Bindings) (start old new : Trail) (args : List Word) (head : List source.Term) (met at : ℕ) (arg w : Word)
+    (left : pairs_left args head met at ≡ (term_of_word arg, marked_first met w) ∷ pairs_left args head (met_after met w) (at + 1))
+    (c : HeadComes s start old args head met at) where
   abbrev all : List Pair
   all = head_pairs 0 (map term_of_word args) (map term_of head)
 
@@ -148,10 +162,14 @@ module _ (s : Bindings) (start old new : Trail) (args : List Word) (head : List 
   all_reads : (rs : List Variable) → read_by new ≡ read_by old ++ rs → read_by new ≡ read_by start ++ (c.reads ++ rs)
   all_reads rs e = e ∙ ap (λ x. x ++ rs) c.more_reads ∙ append_assoc (read_by start) c.reads rs
 
-  one_pair : (d : Unified) (g : Goes s old new (term_of_word arg, marked_first met w) d) (n : ℕ) → c.steps ≤ suc n → g.steps ≤ n → unify (at + suc n) s [] [] all ≡ step_on (unify n s) (bound_by old) (c.reads ++ g.treated.reads) rest g.treated.step
-  one_pair d g n h i = c.comes (suc n) h ∙ ap (unify (suc n) s (bound_by old) c.reads) left ∙ ap (go_on (unify n s) (bound_by old) c.reads rest) (g.is_pair n i)
+  one_pair : (d : Unified) (g : Goes s old new (term_of_word arg, marked_first met w) d) (n : ℕ) → c.steps ≤ suc n → g.steps ≤ n
+      → unify (at + suc n) s [] [] all ≡ step_on (unify n s) (bound_by old) (c.reads ++ g.treated.reads) rest g.treated.step
+  one_pair d g n h i =
+      c.comes (suc n) h ∙ ap (unify (suc n) s (bound_by old) c.reads) left
+      ∙ ap (go_on (unify n s) (bound_by old) c.reads rest) (g.is_pair n i)
 
-  step_after : (n : ℕ) (st : Step) (rs : List Variable) → bound_after (bound_by old) st ≡ Some (bound_by new) → step_on (unify n s) (bound_by old) rs rest st ≡ unify n s (bound_by new) rs rest
+  step_after : (n : ℕ) (st : Step) (rs : List Variable) → bound_after (bound_by old) st ≡ Some (bound_by new)
+      → step_on (unify n s) (bound_by old) rs rest st ≡ unify n s (bound_by new) rs rest
   step_after n nothing rs e = let same : bound_by old ≡ bound_by new = cc in ap (λ x. unify n s x rs rest) same
   step_after n (binds p t) rs e = let same : bound_by old ++ (p, t) ∷ [] ≡ bound_by new = cc in ap (λ x. unify n s x rs rest) same
   step_after n clashes rs e = cc
@@ -165,7 +183,8 @@ module _ (s : Bindings) (start old new : Trail) (args : List Word) (head : List 
     steps = c.steps + g.steps;
     comes = λ n h.
         let same : at + 1 + n ≡ at + suc n = omega arith in
-        ap (λ j. unify j s [] [] all) same ∙ one_pair Done g n (omega arith) (omega arith) ∙ step_after n g.treated.step (c.reads ++ g.treated.reads) g.step;
+        ap (λ j. unify j s [] [] all) same ∙ one_pair Done g n (omega arith) (omega arith)
+        ∙ step_after n g.treated.step (c.reads ++ g.treated.reads) g.step;
   }
 
   far : (n k : ℕ) → at + suc k ≤ n → (m : ℕ) × (n ≡ at + suc m) × (k ≤ m)
@@ -178,7 +197,8 @@ module _ (s : Bindings) (start old new : Trail) (args : List Word) (head : List 
     steps = at + suc (c.steps + g.steps);
     ends = λ n h.
         let m = far n (c.steps + g.steps) h in
-        ap (λ j. unify j s [] [] all) m.1 ∙ one_pair Clash g m.0 (omega (arith, m.2)) (omega (arith, m.2)) ∙ ap (step_on (unify m.0 s) (bound_by old) (c.reads ++ g.treated.reads) rest) g.step.0;
+        ap (λ j. unify j s [] [] all) m.1 ∙ one_pair Clash g m.0 (omega (arith, m.2)) (omega (arith, m.2))
+        ∙ ap (step_on (unify m.0 s) (bound_by old) (c.reads ++ g.treated.reads) rest) g.step.0;
   }
 
   pub comes_to_wait : Goes s old new (term_of_word arg, marked_first met w) Wait → HeadEnds s start new args head Wait
@@ -188,11 +208,13 @@ module _ (s : Bindings) (start old new : Trail) (args : List Word) (head : List 
     steps = at + suc (c.steps + g.steps);
     ends = λ n h.
         let m = far n (c.steps + g.steps) h in
-        ap (λ j. unify j s [] [] all) m.1 ∙ one_pair Wait g m.0 (omega (arith, m.2)) (omega (arith, m.2)) ∙ ap (step_on (unify m.0 s) (bound_by old) (c.reads ++ g.treated.reads) rest) g.step.0;
+        ap (λ j. unify j s [] [] all) m.1 ∙ one_pair Wait g m.0 (omega (arith, m.2)) (omega (arith, m.2))
+        ∙ ap (step_on (unify m.0 s) (bound_by old) (c.reads ++ g.treated.reads) rest) g.step.0;
   }
 
 -- no pair is left
-pub comes_to_end : (s : Bindings) (start now : Trail) (args : List Word) (head : List source.Term) (met at : ℕ) → pairs_left args head met at ≡ [] → HeadComes s start now args head met at → HeadEnds s start now args head Done
+pub comes_to_end : (s : Bindings) (start now : Trail) (args : List Word) (head : List source.Term) (met at : ℕ)
+    → pairs_left args head met at ≡ [] → HeadComes s start now args head met at → HeadEnds s start now args head Done
 comes_to_end s start now args head met at left c = record {
   reads = c.reads;
   more_reads = c.more_reads;
@@ -200,7 +222,8 @@ comes_to_end s start now args head met at left c = record {
   ends = λ n h.
       let m : ℕ = n - (at + 1) in
       let same : n ≡ at + suc m = omega arith in
-      ap (λ j. unify j s [] [] (head_pairs 0 (map term_of_word args) (map term_of head))) same ∙ c.comes (suc m) (omega arith) ∙ ap (unify (suc m) s (bound_by now) c.reads) left;
+      ap (λ j. unify j s [] [] (head_pairs 0 (map term_of_word args) (map term_of head))) same ∙ c.comes (suc m) (omega arith)
+      ∙ ap (unify (suc m) s (bound_by now) c.reads) left;
 }
 
 -- what one step of a head needs of its argument and its word
@@ -209,12 +232,17 @@ pub record HeadStep (c : Clause) (args : List Word) (met at : ℕ) (arg w : Word
   pub named : (n : ℕ) → IsWordAmong n (met_after met w) w
   pub within : met ≤ c.vars → met_after met w ≤ c.vars
 
-pub flat_here : (c : Clause) (items : List source.Term) (at : ℕ) (t : source.Term) → IsPlainClause c → items ≡ c.args → at < length items → t ≡ get_or items at t → IsFlat c.vars t
-flat_here c items at t p same h e = flat_at c at t p (slice_get_read c.args (length items) at t (ap length same) h (e ∙ ap (λ xs. get_or xs at t) same))
+pub flat_here : (c : Clause) (items : List source.Term) (at : ℕ) (t : source.Term) → IsPlainClause c → items ≡ c.args → at < length items
+    → t ≡ get_or items at t → IsFlat c.vars t
+flat_here c items at t p same h e =
+    flat_at c at t p (slice_get_read c.args (length items) at t (ap length same) h (e ∙ ap (λ xs. get_or xs at t) same))
 
-pub head_step : (c : Clause) (args : List Word) (items : List source.Term) (met at : ℕ) (arg w : Word) (t : source.Term) → IsPlainClause c → items ≡ c.args → at < length items → t ≡ get_or items at t → slice_get args at ≡ Some arg → t ≡ source_of w → HeadStep c args met at arg w
+pub head_step : (c : Clause) (args : List Word) (items : List source.Term) (met at : ℕ) (arg w : Word) (t : source.Term) → IsPlainClause c
+    → items ≡ c.args → at < length items → t ≡ get_or items at t → slice_get args at ≡ Some arg → t ≡ source_of w
+    → HeadStep c args met at arg w
 head_step c args items met at arg w t p same h e a s =
-    let there : slice_get c.args at ≡ Some t = slice_get_read c.args (length items) at t (ap length same) h (e ∙ ap (λ xs. get_or xs at t) same) in
+    let there : slice_get c.args at ≡ Some t =
+    slice_get_read c.args (length items) at t (ap length same) h (e ∙ ap (λ xs. get_or xs at t) same) in
     let f : IsFlat c.vars t = flat_at c at t p there in
     let g : IsFlat c.vars (source_of w) = sym (ap (is_flat c.vars) s) ∙ f in
     record {

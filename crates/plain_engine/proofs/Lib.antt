@@ -27,4 +27,5 @@ pub mod ShortWays
 pub mod ShownWords
 pub mod Sounds
 pub mod SourceTerms
+pub mod TriedClauses
 pub mod WaitingOrder

@@ -44,11 +44,13 @@ AreOldGoals-more procedures n n' [] h i = tt
 AreOldGoals-more procedures n n' (p ∷ ps) h i = (IsOldGoal-more procedures n n' p.goal h i.0, AreOldGoals-more procedures n n' ps h i.1)
 
 module _ (procedures n : ℕ) where
-  pub AreOldGoals-append : (ps qs : List run.Process) → AreOldGoals procedures n ps → AreOldGoals procedures n qs → AreOldGoals procedures n (ps ++ qs)
+  pub AreOldGoals-append : (ps qs : List run.Process) → AreOldGoals procedures n ps → AreOldGoals procedures n qs
+      → AreOldGoals procedures n (ps ++ qs)
   AreOldGoals-append [] qs h i = i
   AreOldGoals-append (p ∷ ps) qs h i = (h.0, AreOldGoals-append ps qs h.1 i)
 
-  pub AreOldGoals-filter : (t : run.Process → Bool) (ps : List run.Process) → AreOldGoals procedures n ps → AreOldGoals procedures n (filter t ps)
+  pub AreOldGoals-filter : (t : run.Process → Bool) (ps : List run.Process) → AreOldGoals procedures n ps
+      → AreOldGoals procedures n (filter t ps)
   AreOldGoals-filter t [] h = tt
   AreOldGoals-filter t (p ∷ ps) h = go (t p) (AreOldGoals-filter t ps h.1)
     where
@@ -60,11 +62,13 @@ module _ (procedures n : ℕ) where
   AreOldGoals-ready [] h = tt
   AreOldGoals-ready (p ∷ ps) h = (h.0, AreOldGoals-ready ps h.1)
 
-  pub AreOldGoals-with : (p : run.Process) (ps : List run.Process) → IsOldGoal procedures n p.goal → AreOldGoals procedures n ps → AreOldGoals procedures n (with_process p ps)
+  pub AreOldGoals-with : (p : run.Process) (ps : List run.Process) → IsOldGoal procedures n p.goal → AreOldGoals procedures n ps
+      → AreOldGoals procedures n (with_process p ps)
   AreOldGoals-with p [] h i = (h, tt)
   AreOldGoals-with p (q ∷ ps) h i = go (is_older_process p.name q.name) (AreOldGoals-with p ps h i.1)
     where
-      go : (b : Bool) → AreOldGoals procedures n (with_process p ps) → AreOldGoals procedures n (elim b [ true ↦ p ∷ q ∷ ps | _ ↦ q ∷ with_process p ps ])
+      go : (b : Bool) → AreOldGoals procedures n (with_process p ps)
+          → AreOldGoals procedures n (elim b [ true ↦ p ∷ q ∷ ps | _ ↦ q ∷ with_process p ps ])
       go true rec = (h, i)
       go false rec = (i.0, rec)
 
@@ -95,7 +99,8 @@ module _ (hs : List ProcedureName) (n : ℕ) where
   abbrev IsOldHere : Goal ℕ → Type 0
   IsOldHere g = IsOldGoal (length hs) n (rename_goal (placed n) g)
 
-  user_old : (name : Sym) (k : ℕ) (ts : List (Term ℕ)) → (not (is_true name.0 k) && list_any (same_procedure (head_called name k)) hs) ≡ true
+  user_old : (name : Sym) (k : ℕ) (ts : List (Term ℕ))
+      → (not (is_true name.0 k) && list_any (same_procedure (head_called name k)) hs) ≡ true
       → AreOldTerms n (map (rename (placed n)) ts) → IsOldHere (user_goal hs name k ts)
   user_old name zero ts h i =
       let parts = and_parts (not (is_true name.0 0)) (list_any (same_procedure (head_called name 0)) hs) h in

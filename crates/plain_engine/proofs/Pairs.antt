@@ -27,14 +27,20 @@ word_first (Var v) = refl
 word_first (ReadOnly v) = refl
 
 -- the pair, from the values and the table
-pair_is : (s : Bindings) (v w l r : Word) (m : Move) (a : Values s (term_of_word v) (look_of l)) (b : Values s (term_of_word w) (look_of r)) → IsMove l r m → (n : ℕ) → a.0 + b.0 ≤ n → pair n s (term_of_word v) (term_of_word w) ≡ Some (treated_by m l r)
+pair_is : (s : Bindings) (v w l r : Word) (m : Move) (a : Values s (term_of_word v) (look_of l))
+    (b : Values s (term_of_word w) (look_of r)) → IsMove l r m → (n : ℕ) → a.0 + b.0 ≤ n
+    → pair n s (term_of_word v) (term_of_word w) ≡ Some (treated_by m l r)
 pair_is s v w l r m a b t n h =
-    let p : value n s (term_of_word v) ≡ Some (look_of l) = at_least (λ k. value k s (term_of_word v)) (value_more s (term_of_word v)) a.0 n (omega arith) (look_of l) a.1 in
-    let q : value n s (term_of_word w) ≡ Some (look_of r) = at_least (λ k. value k s (term_of_word w)) (value_more s (term_of_word w)) b.0 n (omega arith) (look_of r) b.1 in
+    let p : value n s (term_of_word v) ≡ Some (look_of l) =
+    at_least (λ k. value k s (term_of_word v)) (value_more s (term_of_word v)) a.0 n (omega arith) (look_of l) a.1 in
+    let q : value n s (term_of_word w) ≡ Some (look_of r) =
+    at_least (λ k. value k s (term_of_word w)) (value_more s (term_of_word w)) b.0 n (omega arith) (look_of r) b.1 in
     ap (pair_on n s (term_of_word v) (term_of_word w)) (word_first w) ∙ rw (p, q) (t n s)
 
 -- two words were treated by their values
-pub goes_by_value : (s : Bindings) (old new : Trail) (v w l r : Word) (d : Unified) → Values (s ++ bound_by old) (term_of_word v) (look_of l) → Values (s ++ bound_by old) (term_of_word w) (look_of r) → Treats old new l r d → Goes s old new (term_of_word v, term_of_word w) d
+pub goes_by_value : (s : Bindings) (old new : Trail) (v w l r : Word) (d : Unified)
+    → Values (s ++ bound_by old) (term_of_word v) (look_of l) → Values (s ++ bound_by old) (term_of_word w) (look_of r)
+    → Treats old new l r d → Goes s old new (term_of_word v, term_of_word w) d
 goes_by_value s old new v w l r d a b t = record {
   treated = treated_by t.move l r;
   steps = a.0 + b.0;
@@ -50,7 +56,10 @@ flat_step (Text c) (Var q) = binds (variable_of q) (string c.0)
 flat_step (Text c) (ReadOnly q) = waits
 flat_step (Var p) (Text d) = binds (variable_of p) (string d.0)
 flat_step (ReadOnly p) (Text d) = waits
-flat_step (Var p) (Var q) = cond (is_same (variable_of p) (variable_of q)) nothing (cond (is_older (variable_of p) (variable_of q)) (binds (variable_of q) (var (variable_of p))) (binds (variable_of p) (var (variable_of q))))
+flat_step (Var p) (Var q) =
+    cond (is_same (variable_of p) (variable_of q)) nothing
+    (cond (is_older (variable_of p) (variable_of q)) (binds (variable_of q) (var (variable_of p)))
+    (binds (variable_of p) (var (variable_of q))))
 flat_step (Var p) (ReadOnly q) = cond (is_same (variable_of p) (variable_of q)) nothing (binds (variable_of p) (ro (variable_of q)))
 flat_step (ReadOnly p) (Var q) = cond (is_same (variable_of p) (variable_of q)) nothing (binds (variable_of q) (ro (variable_of p)))
 flat_step (ReadOnly p) (ReadOnly q) = cond (is_same (variable_of p) (variable_of q)) nothing waits
@@ -90,12 +99,14 @@ module _ (n met : ℕ) (s bs bs' : Bindings) (k : IsTrial n met s bs) where
   stays : bound_after bs nothing ≡ Some bs' → IsTrial n met s bs'
   stays e = let same : bs ≡ bs' = cc in subst (IsTrial n met s) same k
 
-  bound_to : (p : Variable) (w : Word) → find (s ++ bs) p ≡ None → IsAmong n met p → IsWordAmong n met w → IsAtEnd (s ++ bs) w → IsOther p w → bound_after bs (binds p (term_of_word w)) ≡ Some bs' → IsTrial n met s bs'
+  bound_to : (p : Variable) (w : Word) → find (s ++ bs) p ≡ None → IsAmong n met p → IsWordAmong n met w → IsAtEnd (s ++ bs) w
+      → IsOther p w → bound_after bs (binds p (term_of_word w)) ≡ Some bs' → IsTrial n met s bs'
   bound_to p w u i j x o e =
       let same : bs ++ (p, term_of_word w) ∷ [] ≡ bs' = cc in
       subst (IsTrial n met s) same (value_bound n met s bs p w k u i j x o)
 
-  step_kept : (l r : Word) → IsAtEnd (s ++ bs) l → IsAtEnd (s ++ bs) r → IsWordAmong n met l → IsWordAmong n met r → bound_after bs (flat_step l r) ≡ Some bs' → IsTrial n met s bs'
+  step_kept : (l r : Word) → IsAtEnd (s ++ bs) l → IsAtEnd (s ++ bs) r → IsWordAmong n met l → IsWordAmong n met r
+      → bound_after bs (flat_step l r) ≡ Some bs' → IsTrial n met s bs'
   step_kept (Text c) (Text d) i j a b = go (nat_eq c.0 d.0)
     where
       go : (x : Bool) → bound_after bs (cond x nothing clashes) ≡ Some bs' → IsTrial n met s bs'
@@ -107,18 +118,22 @@ module _ (n met : ℕ) (s bs bs' : Bindings) (k : IsTrial n met s bs) where
   step_kept (ReadOnly p) (Text d) i j a b = λ e. cc
   step_kept (Var p) (Var q) i j a b = go (is_same (variable_of p) (variable_of q)) (is_older (variable_of p) (variable_of q)) refl
     where
-      go : (x y : Bool) → is_same (variable_of p) (variable_of q) ≡ x → bound_after bs (cond x nothing (cond y (binds (variable_of q) (var (variable_of p))) (binds (variable_of p) (var (variable_of q))))) ≡ Some bs' → IsTrial n met s bs'
+      go : (x y : Bool) → is_same (variable_of p) (variable_of q) ≡ x
+          → bound_after bs (cond x nothing (cond y (binds (variable_of q) (var (variable_of p)))
+          (binds (variable_of p) (var (variable_of q))))) ≡ Some bs' → IsTrial n met s bs'
       go true y h e = stays e
       go false true h e = bound_to (variable_of q) (Var p) j (b (variable_of q) refl) a i (other_back (variable_of p) (variable_of q) h) e
       go false false h e = bound_to (variable_of p) (Var q) i (a (variable_of p) refl) b j h e
   step_kept (Var p) (ReadOnly q) i j a b = go (is_same (variable_of p) (variable_of q)) refl
     where
-      go : (x : Bool) → is_same (variable_of p) (variable_of q) ≡ x → bound_after bs (cond x nothing (binds (variable_of p) (ro (variable_of q)))) ≡ Some bs' → IsTrial n met s bs'
+      go : (x : Bool) → is_same (variable_of p) (variable_of q) ≡ x
+          → bound_after bs (cond x nothing (binds (variable_of p) (ro (variable_of q)))) ≡ Some bs' → IsTrial n met s bs'
       go true h e = stays e
       go false h e = bound_to (variable_of p) (ReadOnly q) i (a (variable_of p) refl) b j h e
   step_kept (ReadOnly p) (Var q) i j a b = go (is_same (variable_of p) (variable_of q)) refl
     where
-      go : (x : Bool) → is_same (variable_of p) (variable_of q) ≡ x → bound_after bs (cond x nothing (binds (variable_of q) (ro (variable_of p)))) ≡ Some bs' → IsTrial n met s bs'
+      go : (x : Bool) → is_same (variable_of p) (variable_of q) ≡ x
+          → bound_after bs (cond x nothing (binds (variable_of q) (ro (variable_of p)))) ≡ Some bs' → IsTrial n met s bs'
       go true h e = stays e
       go false h e = bound_to (variable_of q) (ReadOnly p) j (b (variable_of q) refl) a i (other_back (variable_of p) (variable_of q) h) e
   step_kept (ReadOnly p) (ReadOnly q) i j a b = go (is_same (variable_of p) (variable_of q))
@@ -127,7 +142,8 @@ module _ (n met : ℕ) (s bs bs' : Bindings) (k : IsTrial n met s bs) where
       go true e = stays e
       go false e = cc
 
-  move_kept : (d : Unified) (l r : Word) (m : Move) → IsMove l r m → IsAtEnd (s ++ bs) l → IsAtEnd (s ++ bs) r → IsWordAmong n met l → IsWordAmong n met r → StepIs d bs bs' (step_of m) → IsTrial n met s bs'
+  move_kept : (d : Unified) (l r : Word) (m : Move) → IsMove l r m → IsAtEnd (s ++ bs) l → IsAtEnd (s ++ bs) r → IsWordAmong n met l
+      → IsWordAmong n met r → StepIs d bs bs' (step_of m) → IsTrial n met s bs'
   move_kept Done l r m t i j a b e = step_kept l r i j a b (sym (ap (bound_after bs) (flat_table l r (treated_by m l r) (t 0 []))) ∙ e)
   move_kept Clash l r m t i j a b e = subst (IsTrial n met s) (sym e.1) k
   move_kept Wait l r m t i j a b e = subst (IsTrial n met s) (sym e.1) k
@@ -139,14 +155,17 @@ pub kept_by_value : (n met : ℕ) (s : Bindings) (old new : Trail) (v w l r : Wo
     → IsAtEnd (s ++ bound_by old) l → IsAtEnd (s ++ bound_by old) r → Treats old new l r d → IsTrial n met s (bound_by new)
 kept_by_value n met s old new v w l r d k a b x y i j t =
     let all = all_among n met s (bound_by old) k in
-    move_kept n met s (bound_by old) (bound_by new) k d l r t.move t.is_move i j (value_among n met (s ++ bound_by old) v l all a x) (value_among n met (s ++ bound_by old) w r all b y) t.step
+    move_kept n met s (bound_by old) (bound_by new) k d l r t.move t.is_move i j (value_among n met (s ++ bound_by old) v l all a x)
+    (value_among n met (s ++ bound_by old) w r all b y) t.step
 
 -- where more variables were met
 pub trial_more : (n met met' : ℕ) (s bs : Bindings) → met ≤ met' → IsTrial n met s bs → IsTrial n met' s bs
-trial_more n met met' s bs h k = record { ranked = k.ranked; old = k.old; among = are_among_more n n met met' bs (omega arith) h k.among; fresh = k.fresh }
+trial_more n met met' s bs h k =
+    record { ranked = k.ranked; old = k.old; among = are_among_more n n met met' bs (omega arith) h k.among; fresh = k.fresh }
 
 -- a variable that stands for the first time took the argument as it stands
-pub goes_first : (s : Bindings) (old new : Trail) (arg : Word) (met k : ℕ) → met < k → read_by new ≡ read_by old → bound_by new ≡ bound_by old ++ (own k, term_of_word arg) ∷ [] → Goes s old new (term_of_word arg, marked_first met (Var (Own k))) Done
+pub goes_first : (s : Bindings) (old new : Trail) (arg : Word) (met k : ℕ) → met < k → read_by new ≡ read_by old
+    → bound_by new ≡ bound_by old ++ (own k, term_of_word arg) ∷ [] → Goes s old new (term_of_word arg, marked_first met (Var (Own k))) Done
 goes_first s old new arg met k h reads bound = record {
   treated = record { step = binds (own k) (term_of_word arg); reads = [] };
   steps = 0;

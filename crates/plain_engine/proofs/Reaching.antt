@@ -1,7 +1,7 @@
 -- What one ruling on the front of the queue makes of where the engine stands.
 use Rattle.std.proofs.Common.{◌≡◌, ℕ, suc, ◌+◌, ◌<◌, ◌≤◌, List, [], ◌∷◌, ◌++◌, length, map, Option, Some, None, refl, sym, ap, ◌∙◌, subst, append_assoc, append-nil, arith}
-use Rattle.std.specs.Prelude.{◌*◌, codes}
-use Rattle.std.proofs.lemmas.List.{map-append, length-map, length_push}
+use Rattle.std.specs.Prelude.{◌*◌}
+use Rattle.std.proofs.lemmas.List.{map-append, length-map}
 use Rattle.fcp_model.specs.declared.run.Place.{Place}
 use Rattle.fcp_model.specs.ProcedureNames.{procedure_names}
 use Rattle.fcp_model.specs.Places.{Variable, places_among}
@@ -37,13 +37,16 @@ use Rattle.plain_engine.proofs.OldGoals.{AreOldGoals-more, AreOldGoals-append, A
 use Rattle.plain_engine.proofs.WaitingOrder.{rise_filter}
 
 -- the lines of one event more
-pub lines_more : (names : List Bytes) (evs : List Event) (ev : Event) (n : ℕ) → both_texts (event_lines n names evs) (event_line n names ev) ≡ event_lines n names (evs ++ ev ∷ [])
+pub lines_more : (names : List Bytes) (evs : List Event) (ev : Event) (n : ℕ)
+    → both_texts (event_lines n names evs) (event_line n names ev) ≡ event_lines n names (evs ++ ev ∷ [])
 lines_more names [] ev n = go (event_line n names ev)
   where
     go : (o : Option Bytes) → both_texts (Some []) o ≡ both_texts o (Some [])
     go None = refl
     go (Some a) = ap Some (sym (append-nil a))
-lines_more names (e ∷ evs) ev n = go (event_line n names e) (event_lines n names evs) (event_line n names ev) ∙ ap (both_texts (event_line n names e)) (lines_more names evs ev n)
+lines_more names (e ∷ evs) ev n =
+    go (event_line n names e) (event_lines n names evs) (event_line n names ev)
+    ∙ ap (both_texts (event_line n names e)) (lines_more names evs ev n)
   where
     go : (a b c : Option Bytes) → both_texts (both_texts a b) c ≡ both_texts a (both_texts b c)
     go None b c = refl
@@ -51,10 +54,12 @@ lines_more names (e ∷ evs) ev n = go (event_line n names e) (event_lines n nam
     go (Some a) (Some b) None = refl
     go (Some a) (Some b) (Some c) = ap Some (append_assoc a b c)
 
--- an event's line is put behind the text
-pub line_added : (names : List Bytes) (evs : List Event) (ev : Event) (head old new line : Bytes) → Adds head old (λ n. event_lines n names evs) → Gives (λ n. event_line n names ev) line → new ≡ old ++ line
+-- an event's line is put after the text
+pub line_added : (names : List Bytes) (evs : List Event) (ev : Event) (head old new line : Bytes)
+    → Adds head old (λ n. event_lines n names evs) → Gives (λ n. event_line n names ev) line → new ≡ old ++ line
     → Adds head new (λ n. event_lines n names (evs ++ ev ∷ []))
-line_added names evs ev head old new line a g e = adds_both _ _ _ head old new a (record { added = line; behind = e; given = g }) (lines_more names evs ev)
+line_added names evs ev head old new line a g e =
+    adds_both _ _ _ head old new a (record { added = line; behind = e; given = g }) (lines_more names evs ev)
 
 -- the cells of an event are those of its decision
 event_cells : (m : Program) (s : run.State) (p : run.Process) (d : Decision) → (event_of m s p d).cells ≡ cells m p.goal d
@@ -80,7 +85,8 @@ module _ (t : Task) (p : Process) (e : Engine) (r : IsReached t (process_of p �
 
   pub sound_schedule : IsSoundSchedule r.at
   sound_schedule = leads_sound m t.limits (begin (start_of t.loaded.now t.goal.now) []) r.events r.at
-      (begin_sound (start_of t.loaded.now t.goal.now) [] (start_ordered (length t.goal.now.names) (started_goals t.loaded.now t.goal.now))) r.leads
+      (begin_sound (start_of t.loaded.now t.goal.now) []
+      (start_ordered (length t.goal.now.names) (started_goals t.loaded.now t.goal.now))) r.leads
 
   -- the names of the waiting processes rise
   pub waiting_rise : NamesRise (map waiting_process e.waiting.items)
@@ -89,24 +95,29 @@ module _ (t : Task) (p : Process) (e : Engine) (r : IsReached t (process_of p �
   pub queue_is : r.at.queue ≡ process_of p ∷ rest
   queue_is = r.stands.queue
 
-  pub ruled : HasRoom t e → (n : ℕ) (d : Decision) → decide n m (bound_of e.store) (process_of p).goal ≡ Some d → ruling n m t.limits r.at ≡ Some (front_ruling t.limits r.at (process_of p) rest (event_of m r.at.state (process_of p) d))
+  pub ruled : HasRoom t e → (n : ℕ) (d : Decision) → decide n m (bound_of e.store) (process_of p).goal ≡ Some d
+      → ruling n m t.limits r.at ≡ Some (front_ruling t.limits r.at (process_of p) rest (event_of m r.at.state (process_of p) d))
   ruled room n d is =
       let long : length r.at.queue ≡ suc (length e.queue.items) = ap length queue_is ∙ ap suc (length-map e.queue.items process_of) in
       front_ruled m t.limits r.at plain (process_of p) rest queue_is
-      (omega (arith, room.commits, r.stands.commits)) (omega (arith, room.moves, r.stands.moves)) (omega (arith, room.passed, r.stands.passed, long))
+      (omega (arith, room.commits, r.stands.commits)) (omega (arith, room.moves, r.stands.moves))
+      (omega (arith, room.passed, r.stands.passed, long))
       n d (ap (λ (s : Bindings). decide n m s (process_of p).goal) r.stands.bound ∙ is)
 
-  pub old_front : IsOldGoal (length (procedure_names t.loaded.now.clauses)) e.moves (process_of p).goal × AreOldGoals (length (procedure_names t.loaded.now.clauses)) e.moves rest
+  pub old_front : IsOldGoal (length (procedure_names t.loaded.now.clauses)) e.moves (process_of p).goal
+      × AreOldGoals (length (procedure_names t.loaded.now.clauses)) e.moves rest
   old_front = subst (AreOldGoals (length (procedure_names t.loaded.now.clauses)) e.moves) queue_is r.old_queue
 
   -- the front went to the back
-  pub pass_reached : (new : Engine) → Passes e new p → HasRoom t e → (d : Decision) → Decides m (bound_of e.store) (process_of p).goal d → t.limits.cells < e.cells + cells m (process_of p).goal d
+  pub pass_reached : (new : Engine) → Passes e new p → HasRoom t e → (d : Decision) → Decides m (bound_of e.store) (process_of p).goal d
+      → t.limits.cells < e.cells + cells m (process_of p).goal d
       → IsReached t [] new
   pass_reached new did room d (n, is) large =
       let ev : Event = event_of m r.at.state (process_of p) d in
       let to : Schedule = record r.at { queue = rest ++ process_of p ∷ []; passed = r.at.passed + 1 } in
       let more : t.limits.cells < r.at.cells + ev.cells = omega (arith, large, r.stands.cells, event_cells m r.at.state (process_of p) d) in
-      let says : ruling n m t.limits r.at ≡ Some (passes to) = ruled room n d is ∙ ap Some (front_passes m t.limits r.at plain (process_of p) rest queue_is ev more) in
+      let says : ruling n m t.limits r.at ≡ Some (passes to) =
+      ruled room n d is ∙ ap Some (front_passes m t.limits r.at plain (process_of p) rest queue_is ev more) in
       record {
         events = r.events;
         at = to;
@@ -124,30 +135,38 @@ module _ (t : Task) (p : Process) (e : Engine) (r : IsReached t (process_of p �
           controls = r.stands.controls;
         };
         lines = subst (λ x. Adds log_head x.items (λ n. event_lines n t.names.now r.events)) (sym did.text) r.lines;
-        sound = subst (λ k. IsSound k (bound_of new.store)) (sym did.moves) (subst (λ s. IsSound e.moves (bound_of s)) (sym did.store) r.sound);
-        old_queue = subst (λ k. AreOldGoals (length (procedure_names t.loaded.now.clauses)) k (rest ++ process_of p ∷ [])) (sym did.moves) (AreOldGoals-append _ e.moves rest (process_of p ∷ []) old_front.1 (old_front.0, tt));
-        old_waiting = subst (λ k. AreOldGoals (length (procedure_names t.loaded.now.clauses)) k (waiting_of r.at.state.processes)) (sym did.moves) r.old_waiting;
+        sound = subst (λ k. IsSound k (bound_of new.store)) (sym did.moves)
+            (subst (λ s. IsSound e.moves (bound_of s)) (sym did.store) r.sound);
+        old_queue = subst (λ k. AreOldGoals (length (procedure_names t.loaded.now.clauses)) k (rest ++ process_of p ∷ [])) (sym did.moves)
+            (AreOldGoals-append _ e.moves rest (process_of p ∷ []) old_front.1 (old_front.0, tt));
+        old_waiting =
+            subst (λ k. AreOldGoals (length (procedure_names t.loaded.now.clauses)) k (waiting_of r.at.state.processes))
+            (sym did.moves) r.old_waiting;
         within = omega (arith, r.within, did.cells);
       }
 
   -- the front hangs
-  pub hang_reached : (new : Engine) (places : List Place) (cost : ℕ) → Hangs e new p places cost → HasRoom t e → (rs : List Variable) → Decides m (bound_of e.store) (process_of p).goal (waits_on rs)
+  pub hang_reached : (new : Engine) (places : List Place) (cost : ℕ) → Hangs e new p places cost → HasRoom t e → (rs : List Variable)
+      → Decides m (bound_of e.store) (process_of p).goal (waits_on rs)
       → places ≡ places_among rs → cost ≡ 3 * length places → e.cells + cost ≤ t.limits.cells → IsReached t [] new
   hang_reached new places cost did room rs (n, is) wait costs fits =
       let ev : Event = event_of m r.at.state (process_of p) (waits_on rs) in
       let to : Schedule = after_event r.at rest ev in
       let price : cost ≡ 3 * length (places_among rs) = costs ∙ ap (λ ps. 3 * length ps) wait in
       let enough : r.at.cells + ev.cells ≤ t.limits.cells = omega (arith, fits, r.stands.cells, price) in
-      let says : ruling n m t.limits r.at ≡ Some (makes ev to) = ruled room n (waits_on rs) is ∙ ap Some (front_makes m t.limits r.at plain (process_of p) rest queue_is ev enough) in
+      let says : ruling n m t.limits r.at ≡ Some (makes ev to) =
+      ruled room n (waits_on rs) is ∙ ap Some (front_makes m t.limits r.at plain (process_of p) rest queue_is ev enough) in
       let front = front_is_ready r.at sound_schedule (process_of p) rest queue_is in
       let asleep : waiting_of ev.after.processes ≡ map waiting_process new.waiting.items =
       waiting_after_hang (places_among rs) (process_of p) r.at.state.processes sound_schedule.ordered.rise front.0 front.1
       ∙ (ap (with_process (record (process_of p) { status = run.waiting (places_among rs) })) r.stands.waiting
-      ∙ (ap (λ ps. with_process (record (process_of p) { status = run.waiting ps }) (map waiting_process e.waiting.items)) (sym wait) ∙ sym did.waiting)) in
+      ∙ (ap (λ ps. with_process (record (process_of p) { status = run.waiting ps }) (map waiting_process e.waiting.items)) (sym wait)
+      ∙ sym did.waiting)) in
       let same_queue : to.queue ≡ rest = append-nil (rest ++ []) ∙ append-nil rest in
       let number : suc r.at.state.entries ≡ e.moves + 1 = omega (arith, r.stands.entries) in
       let line : new.text.items ≡ e.text.items ++ hang_line (suc r.at.state.entries) p.name (places_among rs) =
-      did.text ∙ (ap (λ k. e.text.items ++ hang_line k p.name places) (sym number) ∙ ap (λ ps. e.text.items ++ hang_line (suc r.at.state.entries) p.name ps) wait) in
+      did.text ∙ (ap (λ k. e.text.items ++ hang_line k p.name places) (sym number)
+      ∙ ap (λ ps. e.text.items ++ hang_line (suc r.at.state.entries) p.name ps) wait) in
       record {
         events = r.events ++ ev ∷ [];
         at = to;
@@ -164,22 +183,29 @@ module _ (t : Task) (p : Process) (e : Engine) (r : IsReached t (process_of p �
           cells = omega (arith, r.stands.cells, did.used_cells, price);
           controls = r.stands.controls;
         };
-        lines = line_added t.names.now r.events ev log_head e.text.items new.text.items (hang_line (suc r.at.state.entries) p.name (places_among rs)) r.lines (gives_known _) line;
-        sound = subst (λ k. IsSound k (bound_of new.store)) (sym did.moves) (subst (λ s. IsSound (e.moves + 1) (bound_of s)) (sym did.store) (sound_later e.moves (bound_of e.store) r.sound));
-        old_queue = subst (λ q. AreOldGoals (length (procedure_names t.loaded.now.clauses)) new.moves q) (sym same_queue) (AreOldGoals-more _ e.moves new.moves rest (omega (arith, did.moves)) old_front.1);
+        lines = line_added t.names.now r.events ev log_head e.text.items new.text.items
+            (hang_line (suc r.at.state.entries) p.name (places_among rs)) r.lines (gives_known _) line;
+        sound = subst (λ k. IsSound k (bound_of new.store)) (sym did.moves)
+            (subst (λ s. IsSound (e.moves + 1) (bound_of s)) (sym did.store) (sound_later e.moves (bound_of e.store) r.sound));
+        old_queue = subst (λ q. AreOldGoals (length (procedure_names t.loaded.now.clauses)) new.moves q) (sym same_queue)
+            (AreOldGoals-more _ e.moves new.moves rest (omega (arith, did.moves)) old_front.1);
         old_waiting = AreOldGoals-more _ e.moves new.moves (waiting_of ev.after.processes) (omega (arith, did.moves))
-            (subst (AreOldGoals (length (procedure_names t.loaded.now.clauses)) e.moves) (sym (waiting_after_hang (places_among rs) (process_of p) r.at.state.processes sound_schedule.ordered.rise front.0 front.1))
-            (AreOldGoals-with _ e.moves (record (process_of p) { status = run.waiting (places_among rs) }) (waiting_of r.at.state.processes) old_front.0 r.old_waiting));
+            (subst (AreOldGoals (length (procedure_names t.loaded.now.clauses)) e.moves)
+            (sym (waiting_after_hang (places_among rs) (process_of p) r.at.state.processes sound_schedule.ordered.rise front.0 front.1))
+            (AreOldGoals-with _ e.moves (record (process_of p) { status = run.waiting (places_among rs) })
+            (waiting_of r.at.state.processes) old_front.0 r.old_waiting));
         within = omega (arith, fits, did.used_cells);
       }
 
   -- the front fails
-  pub fail_reached : (new : Engine) → Fails e new p → HasRoom t e → (rs : List Variable) → Decides m (bound_of e.store) (process_of p).goal (decides_fail rs) → HasFailed t new
+  pub fail_reached : (new : Engine) → Fails e new p → HasRoom t e → (rs : List Variable)
+      → Decides m (bound_of e.store) (process_of p).goal (decides_fail rs) → HasFailed t new
   fail_reached new did room rs (n, is) =
       let ev : Event = event_of m r.at.state (process_of p) (decides_fail rs) in
       let to : Schedule = after_event r.at rest ev in
       let enough : r.at.cells + ev.cells ≤ t.limits.cells = omega (arith, r.within, r.stands.cells) in
-      let says : ruling n m t.limits r.at ≡ Some (makes ev to) = ruled room n (decides_fail rs) is ∙ ap Some (front_makes m t.limits r.at plain (process_of p) rest queue_is ev enough) in
+      let says : ruling n m t.limits r.at ≡ Some (makes ev to) =
+      ruled room n (decides_fail rs) is ∙ ap Some (front_makes m t.limits r.at plain (process_of p) rest queue_is ev enough) in
       let number : suc r.at.state.entries ≡ e.moves + 1 = omega (arith, r.stands.entries) in
       record {
         events = r.events ++ ev ∷ [];
@@ -193,7 +219,9 @@ module _ (t : Task) (p : Process) (e : Engine) (r : IsReached t (process_of p �
         controls = r.stands.controls;
         bound = r.stands.bound ∙ ap bound_of (sym did.store);
         entries = number ∙ sym did.moves;
-        lines = line_added t.names.now r.events ev log_head e.text.items new.text.items (fail_line (suc r.at.state.entries) p.name) r.lines (gives_known _)
+        lines = line_added t.names.now r.events ev log_head e.text.items new.text.items
+            (fail_line (suc r.at.state.entries) p.name) r.lines (gives_known _)
             (did.text ∙ ap (λ k. e.text.items ++ fail_line k p.name) (sym number));
-        sound = subst (λ k. IsSound k (bound_of new.store)) (sym did.moves) (subst (λ s. IsSound (e.moves + 1) (bound_of s)) (sym did.store) (sound_later e.moves (bound_of e.store) r.sound));
+        sound = subst (λ k. IsSound k (bound_of new.store)) (sym did.moves)
+            (subst (λ s. IsSound (e.moves + 1) (bound_of s)) (sym did.store) (sound_later e.moves (bound_of e.store) r.sound));
       }

@@ -1,5 +1,5 @@
 -- The report of a run without controls, from its log and its end.
-use Rattle.std.proofs.Common.{◌≡◌, ℕ, zero, suc, ◌-◌, true, List, [], ◌∷◌, ◌++◌, length, drop, Option, Some, refl, sym, ap, ◌∙◌, subst, append_assoc, append-nil, arith}
+use Rattle.std.proofs.Common.{◌≡◌, ℕ, zero, suc, ◌-◌, true, List, [], ◌∷◌, ◌++◌, length, drop, Some, refl, sym, ap, ◌∙◌, subst, append_assoc, append-nil, arith}
 use Rattle.std.specs.Prelude.{Result, Ok, Err, IfOk, codes, decimal}
 use Rattle.fcp_model.specs.declared.run.Control.{Control}
 use Rattle.fcp_model.specs.declared.run.Entry.{Entry}
@@ -54,11 +54,13 @@ drop_nothing (suc k) = refl
 
 -- the pieces of a report, as the definition and as the code put them together
 arranged : (head lines ending number feed outcome shown : Bytes) →
-    (head ++ lines ++ ending ++ number ++ feed) ++ (outcome ++ (shown ++ ([] ++ []))) ≡ (head ++ lines) ++ (ending ++ number ++ feed) ++ outcome ++ shown
+    (head ++ lines ++ ending ++ number ++ feed) ++ (outcome ++ (shown ++ ([] ++ [])))
+    ≡ (head ++ lines) ++ (ending ++ number ++ feed) ++ outcome ++ shown
 arranged head lines ending number feed outcome shown = simp (append_assoc, append-nil) refl
 
 -- the report of a run without controls that ended at a schedule
-module _ (t : Task) (events : List Event) (at : Schedule) (run_is : IsOneWorkerRun (program_of t.loaded.now) t.limits (start_of t.loaded.now t.goal.now) [] events at) where
+module _ (t : Task) (events : List Event) (at : Schedule)
+    (run_is : IsOneWorkerRun (program_of t.loaded.now) t.limits (start_of t.loaded.now t.goal.now) [] events at) where
   abbrev m : Program
   m = program_of t.loaded.now
 
@@ -84,12 +86,15 @@ module _ (t : Task) (events : List Event) (at : Schedule) (run_is : IsOneWorkerR
       (gives_map (λ n. event_lines n t.names.now events) (λ x. log_head ++ x ++ codes "end " ++ decimal last ++ codes "\n") lines f)
       (gives_both (λ n. Some (outcome_line o)) _ _ _ (gives_known _)
       (gives_both (λ n. variable_lines n t.names.now (last_state s events).bound variables) _ _ _
-      (gives_same (λ n. variable_lines n t.names.now at.state.bound variables) _ _ (λ n. ap (λ (x : State). variable_lines n t.names.now x.bound variables) last_is) g)
+      (gives_same (λ n. variable_lines n t.names.now at.state.bound variables) _ _
+      (λ n. ap (λ (x : State). variable_lines n t.names.now x.bound variables) last_is) g)
       (gives_both (λ n. Some (not_reached_lines (drop reached []))) (λ n. snapshot_texts n t.names.now variables m events) _ _
       (gives_same (λ n. Some []) _ _ (λ n. ap (λ cs. Some (not_reached_lines cs)) (sym (drop_nothing reached))) (gives_known []))
-      (gives_same (λ n. Some []) _ _ (λ n. sym (no_snapshots n t.names.now variables m events (all_moves m t.limits s events at run_is.leads))) (gives_known [])))))
+      (gives_same (λ n. Some []) _ _ (λ n. sym
+      (no_snapshots n t.names.now variables m events (all_moves m t.limits s events at run_is.leads))) (gives_known [])))))
 
-  pub reported : (moves : ℕ) (bound : Bindings) (o : Outcome) (log text : Bytes) → at.state.entries ≡ moves → at.state.bound ≡ bound → o ≡ outcome_at t.limits at
+  pub reported : (moves : ℕ) (bound : Bindings) (o : Outcome) (log text : Bytes) → at.state.entries ≡ moves → at.state.bound ≡ bound
+      → o ≡ outcome_at t.limits at
       → Adds log_head log (λ n. event_lines n t.names.now events) → AddsEnd log text t.names.now t.goal.now.names bound moves o
       → IsOneWorkerReport m s t.limits [] t.names.now variables o text
   reported moves bound o log text counted found is lines end =
@@ -105,26 +110,36 @@ module _ (t : Task) (events : List Event) (at : Schedule) (run_is : IsOneWorkerR
         events = events;
         last = at;
         run = run_is;
-        outcome = subst (Ends m t.limits s events) (sym is) (ends_so m t.limits s [] events at (start_ordered (length t.goal.now.names) (started_goals t.loaded.now t.goal.now)) refl run_is);
+        outcome = subst (Ends m t.limits s events) (sym is)
+            (ends_so m t.limits s [] events at (start_ordered (length t.goal.now.names) (started_goals t.loaded.now t.goal.now)) refl
+            run_is);
         steps = given.0;
         text = given.1 given.0 (omega arith) ∙ ap Some same;
       }
 
 -- the two ends
-pub report_ended : {E : Type 0} (t : Task) (e : Engine) (h : HasEnded t e) (o : Outcome) (r : Result Report E) → ((at : Schedule) → ScheduledAt [] e at → o ≡ outcome_at t.limits at)
-    → IfOk r (λ r. r.outcome ≡ o) → IfOk r (λ r. AddsEnd e.text.items r.text.items t.names.now t.goal.now.names (bound_of e.store) e.moves o)
-    → IfOk r (λ r. IsOneWorkerReport (program_of t.loaded.now) (start_of t.loaded.now t.goal.now) t.limits [] t.names.now (goal_variables t.goal.now.names) r.outcome r.text.items)
+pub report_ended : {E : Type 0} (t : Task) (e : Engine) (h : HasEnded t e) (o : Outcome) (r : Result Report E)
+    → ((at : Schedule) → ScheduledAt [] e at → o ≡ outcome_at t.limits at)
+    → IfOk r (λ r. r.outcome ≡ o)
+    → IfOk r (λ r. AddsEnd e.text.items r.text.items t.names.now t.goal.now.names (bound_of e.store) e.moves o)
+    → IfOk r (λ r. IsOneWorkerReport (program_of t.loaded.now) (start_of t.loaded.now t.goal.now) t.limits [] t.names.now
+    (goal_variables t.goal.now.names) r.outcome r.text.items)
 report_ended t e h o (Err x) is f g = tt
 report_ended t e h o (Ok x) is f g =
     let h' = h.reached in
-    subst (λ o. IsOneWorkerReport (program_of t.loaded.now) (start_of t.loaded.now t.goal.now) t.limits [] t.names.now (goal_variables t.goal.now.names) o x.text.items) (sym f)
-    (reported t h'.events h'.at (record { leads = h'.leads; steps = h.steps; ended = h.ended }) e.moves (bound_of e.store) o e.text.items x.text.items h'.stands.entries h'.stands.bound (is h'.at h'.stands) h'.lines g)
+    subst (λ o. IsOneWorkerReport (program_of t.loaded.now) (start_of t.loaded.now t.goal.now) t.limits [] t.names.now
+    (goal_variables t.goal.now.names) o x.text.items) (sym f)
+    (reported t h'.events h'.at (record { leads = h'.leads; steps = h.steps; ended = h.ended }) e.moves
+    (bound_of e.store) o e.text.items x.text.items h'.stands.entries h'.stands.bound (is h'.at h'.stands) h'.lines g)
 
 pub report_failed : {E : Type 0} (t : Task) (e : Engine) (h : HasFailed t e) (r : Result Report E)
-    → IfOk r (λ r. r.outcome ≡ Failed) → IfOk r (λ r. AddsEnd e.text.items r.text.items t.names.now t.goal.now.names (bound_of e.store) e.moves Failed)
-    → IfOk r (λ r. IsOneWorkerReport (program_of t.loaded.now) (start_of t.loaded.now t.goal.now) t.limits [] t.names.now (goal_variables t.goal.now.names) r.outcome r.text.items)
+    → IfOk r (λ r. r.outcome ≡ Failed)
+    → IfOk r (λ r. AddsEnd e.text.items r.text.items t.names.now t.goal.now.names (bound_of e.store) e.moves Failed)
+    → IfOk r (λ r. IsOneWorkerReport (program_of t.loaded.now) (start_of t.loaded.now t.goal.now) t.limits [] t.names.now
+    (goal_variables t.goal.now.names) r.outcome r.text.items)
 report_failed t e h (Err x) f g = tt
 report_failed t e h (Ok x) f g =
     let failed : Failed ≡ outcome_at t.limits h.at = let mode = h.mode in rw mode refl in
-    subst (λ o. IsOneWorkerReport (program_of t.loaded.now) (start_of t.loaded.now t.goal.now) t.limits [] t.names.now (goal_variables t.goal.now.names) o x.text.items) (sym f)
+    subst (λ o. IsOneWorkerReport (program_of t.loaded.now) (start_of t.loaded.now t.goal.now) t.limits [] t.names.now
+    (goal_variables t.goal.now.names) o x.text.items) (sym f)
     (reported t h.events h.at h.run_is e.moves (bound_of e.store) Failed e.text.items x.text.items h.entries h.bound failed h.lines g)

@@ -34,16 +34,21 @@ pub used_first : (m : Program) (p : ℕ) (ts : List (Term Variable)) (k : ℕ) (
 used_first m p ts zero c e = absurd (clause_zero m p ts c e)
 used_first m p ts (suc j) c e = omega arith
 
-pub used_there : (m : Program) (p : ℕ) (ts : List (Term Variable)) (k : ℕ) (c : Clause) → clause_used m (user p ts) k ≡ Some c → k ≤ length (clauses_of m p (length ts))
+pub used_there : (m : Program) (p : ℕ) (ts : List (Term Variable)) (k : ℕ) (c : Clause) → clause_used m (user p ts) k ≡ Some c
+    → k ≤ length (clauses_of m p (length ts))
 used_there m p ts zero c e = omega arith
-used_there m p ts (suc j) c e = let h : j < length (clauses_of m p (length ts)) = slice_get_within (clauses_of m p (length ts)) j c e in omega arith
+used_there m p ts (suc j) c e = let h : j < length (clauses_of m p (length ts)) = slice_get_within (clauses_of m p (length ts)) j c e in
+    omega arith
 
 -- the cells of a commit by it
-pub used_cells : (m : Program) (p : ℕ) (ts : List (Term Variable)) (k : ℕ) (c : Clause) (bs : Bindings) (rs : List Variable) (n : ℕ) → 1 ≤ k → slice_get (clauses_of m p (length ts)) (k - 1) ≡ Some c → clause_cells c ≡ n
+pub used_cells : (m : Program) (p : ℕ) (ts : List (Term Variable)) (k : ℕ) (c : Clause) (bs : Bindings) (rs : List Variable) (n : ℕ)
+    → 1 ≤ k → slice_get (clauses_of m p (length ts)) (k - 1) ≡ Some c → clause_cells c ≡ n
     → n ≡ cells m (user p ts) (commits k bs rs)
 used_cells m p ts k c bs rs n h e f = sym f ∙ sym (ap commit_cells (used_clause m p ts k c h e))
 
 -- what a pass leaves besides
 pub passed_counts : (t : Task) (old new : Engine) (p : Process) → HasRoom t old → Passes old new p → IsReached t [] new
-    → IsReached t [] new × (new.moves ≡ old.moves) × (length new.queue.items ≡ suc (length old.queue.items)) × (new.passed ≡ old.passed + 1) × (old.passed < suc (length old.queue.items))
-passed_counts t old new p room did r = (r, did.moves, (ap length did.queue ∙ length_push old.queue.items p ∙ omega arith), did.passed, room.passed)
+    → IsReached t [] new × (new.moves ≡ old.moves) × (length new.queue.items ≡ suc (length old.queue.items))
+    × (new.passed ≡ old.passed + 1) × (old.passed < suc (length old.queue.items))
+passed_counts t old new p room did r =
+    (r, did.moves, (ap length did.queue ∙ length_push old.queue.items p ∙ omega arith), did.passed, room.passed)

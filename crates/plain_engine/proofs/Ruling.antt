@@ -20,8 +20,16 @@ use Rattle.plain_engine.specs.Engines.{AreOldTerms, IsReached, HasRoom, HasEnded
 use Rattle.plain_engine.proofs.FrontRulings.{by_queue}
 
 -- the run ends at its limits, and where each process of the queue went to its back
-pub ended_here : (t : Task) (e : Engine) → IsReached t [] e → (nat_le t.limits.commits e.commits || nat_le t.limits.moves e.moves || nat_le (length e.queue.items) e.passed) ≡ true → HasEnded t e
-ended_here t e r h = record { reached = r; steps = 0; ended = by_queue (program_of t.loaded.now) t.limits r.at (record { mode = r.stands.mode; controls = r.stands.controls }) 0 ∙ go r.at.queue }
+pub ended_here : (t : Task) (e : Engine) → IsReached t [] e
+    → (nat_le t.limits.commits e.commits || nat_le t.limits.moves e.moves || nat_le (length e.queue.items) e.passed) ≡ true → HasEnded t e
+ended_here t e r h =
+    record {
+      reached = r;
+      steps = 0;
+      ended =
+          by_queue (program_of t.loaded.now) t.limits r.at (record { mode = r.stands.mode; controls = r.stands.controls }) 0
+          ∙ go r.at.queue;
+    }
   where
     long : length r.at.queue ≡ length e.queue.items
     long = ap length r.stands.queue ∙ length-map e.queue.items process_of
@@ -31,10 +39,17 @@ ended_here t e r h = record { reached = r; steps = 0; ended = by_queue (program_
 
     go : (q : List run.Process) → queue_ruling 0 (program_of t.loaded.now) t.limits r.at q ≡ Some ends
     go [] = refl
-    go (p ∷ rest) = ap (λ (x : Bool). elim x [ true ↦ Some ends | _ ↦ option_map (λ (y : Decision). front_ruling t.limits r.at p rest (event_of (program_of t.loaded.now) r.at.state p y)) (decide 0 (program_of t.loaded.now) r.at.state.bound p.goal) ]) full
+    go (p ∷ rest) =
+        ap (λ (x : Bool). elim x [
+          | true ↦ Some ends
+          | _ ↦ option_map
+              (λ (y : Decision). front_ruling t.limits r.at p rest (event_of (program_of t.loaded.now) r.at.state p y))
+              (decide 0 (program_of t.loaded.now) r.at.state.bound p.goal)
+        ]) full
 
 -- the front is taken from the queue
-pub popped : (t : Task) (p : Process) (old new : Engine) → old.queue.items ≡ p ∷ new.queue.items → new ≡ record old { queue = new.queue } → IsReached t [] old → IsReached t (process_of p ∷ []) new
+pub popped : (t : Task) (p : Process) (old new : Engine) → old.queue.items ≡ p ∷ new.queue.items → new ≡ record old { queue = new.queue }
+    → IsReached t [] old → IsReached t (process_of p ∷ []) new
 popped t p old new front same r = subst (IsReached t (process_of p ∷ [])) (sym same) (record {
   events = r.events;
   at = r.at;
@@ -74,9 +89,11 @@ none_of false false true e = cc
 none_of false false false e = (refl, refl, refl)
 
 pub room_here : (t : Task) (p : Process) (old new : Engine) → old.queue.items ≡ p ∷ new.queue.items → new ≡ record old { queue = new.queue }
-    → (nat_le t.limits.commits old.commits || nat_le t.limits.moves old.moves || nat_le (length old.queue.items) old.passed) ≡ false → HasRoom t new
+    → (nat_le t.limits.commits old.commits || nat_le t.limits.moves old.moves || nat_le (length old.queue.items) old.passed) ≡ false
+    → HasRoom t new
 room_here t p old new front same h =
-    let each = none_of (nat_le t.limits.commits old.commits) (nat_le t.limits.moves old.moves) (nat_le (length old.queue.items) old.passed) h in
+    let each = none_of (nat_le t.limits.commits old.commits) (nat_le t.limits.moves old.moves)
+    (nat_le (length old.queue.items) old.passed) h in
     subst (HasRoom t) (sym same) (record {
       commits = not_at_least t.limits.commits old.commits each.0;
       moves = not_at_least t.limits.moves old.moves each.1;

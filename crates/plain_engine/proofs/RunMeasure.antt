@@ -10,11 +10,13 @@ use Rattle.plain_engine.specs.Engines.{IsReached, RuleGives}
 abbrev pub measure : Task → Engine → ℕ
 measure t e = (t.limits.moves - e.moves) * 18446744073709551616 + (length e.queue.items - e.passed)
 
-pub goes_on : (t : Task) (e new : Engine) (r : Ruled) → (r ≡ ruled.Makes) ⊎ (r ≡ ruled.Passes) → RuleGives t e.moves (length e.queue.items) e.passed new r → IsReached t [] new
+pub goes_on : (t : Task) (e new : Engine) (r : Ruled) → (r ≡ ruled.Makes) ⊎ (r ≡ ruled.Passes)
+    → RuleGives t e.moves (length e.queue.items) e.passed new r → IsReached t [] new
 goes_on t e new r (inl makes) h = (subst (RuleGives t e.moves (length e.queue.items) e.passed new) makes h).0
 goes_on t e new r (inr passes) h = (subst (RuleGives t e.moves (length e.queue.items) e.passed new) passes h).0
 
-pub smaller : (t : Task) (e new : Engine) (r : Ruled) → (r ≡ ruled.Makes) ⊎ (r ≡ ruled.Passes) → RuleGives t e.moves (length e.queue.items) e.passed new r → measure t new < measure t e
+pub smaller : (t : Task) (e new : Engine) (r : Ruled) → (r ≡ ruled.Makes) ⊎ (r ≡ ruled.Passes)
+    → RuleGives t e.moves (length e.queue.items) e.passed new r → measure t new < measure t e
 smaller t e new r (inl makes) h =
     let d = subst (RuleGives t e.moves (length e.queue.items) e.passed new) makes h in
     omega (arith, d.1, d.2, new.queue.small)

@@ -58,17 +58,32 @@ module _ (n : ℕ) where
     pub at : find (binds_of bs) (was (suc n) p) ≡ Some (term_of_word word)
     pub settled_to : t ≡ rename (settle (suc n)) (term_of_word word)
 
-  was_bound : (met : ℕ) (bs : List Binding) (p : Variable) (t : Term Variable) → AreAmong n met (binds_of bs) → find (settled (suc n) (binds_of bs)) p ≡ Some t → Was bs p t
+  was_bound : (met : ℕ) (bs : List Binding) (p : Variable) (t : Term Variable) → AreAmong n met (binds_of bs)
+      → find (settled (suc n) (binds_of bs)) p ≡ Some t → Was bs p t
   was_bound met [] p t h e = cc
   was_bound met (b ∷ bs) p t h e = go (is_same (settle (suc n) (variable_of b.variable)) p) refl e (λ f. was_bound met bs p t h.2 f)
     where
-      go : (c : Bool) → is_same (settle (suc n) (variable_of b.variable)) p ≡ c → cond c (Some (rename (settle (suc n)) (term_of_word b.word))) (find (settled (suc n) (binds_of bs)) p) ≡ Some t → (find (settled (suc n) (binds_of bs)) p ≡ Some t → Was bs p t) → Was (b ∷ bs) p t
+      go : (c : Bool) → is_same (settle (suc n) (variable_of b.variable)) p ≡ c
+          → cond c (Some (rename (settle (suc n)) (term_of_word b.word))) (find (settled (suc n) (binds_of bs)) p) ≡ Some t
+          → (find (settled (suc n) (binds_of bs)) p ≡ Some t → Was bs p t) → Was (b ∷ bs) p t
       go true same f rec =
           let here : rename (settle (suc n)) (term_of_word b.word) ≡ t = cc in
-          record { word = b.word; at = ap (λ c. cond c (Some (term_of_word b.word)) (find (binds_of bs) (was (suc n) p))) (sym (same_was met (variable_of b.variable) p h.0) ∙ same); settled_to = sym here }
+          record {
+            word = b.word;
+            at =
+                ap (λ c. cond c (Some (term_of_word b.word)) (find (binds_of bs) (was (suc n) p)))
+                (sym (same_was met (variable_of b.variable) p h.0) ∙ same);
+            settled_to = sym here;
+          }
       go false same f rec =
           let w = rec f in
-          record { word = w.word; at = ap (λ c. cond c (Some (term_of_word b.word)) (find (binds_of bs) (was (suc n) p))) (sym (same_was met (variable_of b.variable) p h.0) ∙ same) ∙ w.at; settled_to = w.settled_to }
+          record {
+            word = w.word;
+            at =
+                ap (λ c. cond c (Some (term_of_word b.word)) (find (binds_of bs) (was (suc n) p)))
+                (sym (same_was met (variable_of b.variable) p h.0) ∙ same) ∙ w.at;
+            settled_to = w.settled_to;
+          }
 
 -- a variable of a settled word
 pub record Renamed (f : Variable → Variable) (q : Variable) (w : Word) : Type 0 where
@@ -89,7 +104,8 @@ are_settled_among : (n met : ℕ) (bs : List Binding) → AreAmong n met (binds_
 are_settled_among n met [] h = tt
 are_settled_among n met (b ∷ bs) h = (
   settled_among n met (variable_of b.variable) h.0,
-  (λ q m. let r = renamed (settle (suc n)) q b.word m in subst (IsAmong (suc n) 0) (sym r.to) (settled_among n met r.from (h.1 r.from r.named))),
+  (λ q m. let r = renamed (settle (suc n)) q b.word m in
+      subst (IsAmong (suc n) 0) (sym r.to) (settled_among n met r.from (h.1 r.from r.named))),
   are_settled_among n met bs h.2,
 )
 
@@ -128,27 +144,40 @@ module _ (n : ℕ) (s : Bindings) (old : AreAmong n 0 s) where
     old_falls p q t at m =
         let st = among_at n 0 s p t old at in
         let all : find (s ++ binds_of bs) p ≡ Some t = find-append s (binds_of bs) p ∙ ap (λ o. found_or o (find (binds_of bs) p)) at in
-        subst (λ x. r.rank x < rank_was p) (sym (was_old q (st.named q m))) (subst (λ x. r.rank q < r.rank x) (sym (was_old p st.bound)) (r.falls p q t all m))
+        subst (λ x. r.rank x < rank_was p) (sym (was_old q (st.named q m)))
+        (subst (λ x. r.rank q < r.rank x) (sym (was_old p st.bound)) (r.falls p q t all m))
 
-    new_falls : (p q : Variable) (t : Term Variable) → find s p ≡ None → find (settled (suc n) (binds_of bs)) p ≡ Some t → Mentions q t → rank_was q < rank_was p
+    new_falls : (p q : Variable) (t : Term Variable) → find s p ≡ None → find (settled (suc n) (binds_of bs)) p ≡ Some t → Mentions q t
+        → rank_was q < rank_was p
     new_falls p q t none at m =
         let w = was_bound n met bs p t h at in
         let x = renamed (settle (suc n)) q w.word (subst (Mentions q) w.settled_to m) in
-        let all : find (s ++ binds_of bs) (was (suc n) p) ≡ Some (term_of_word w.word) = both s (binds_of bs) (was (suc n) p) (was_unbound p none) ∙ w.at in
+        let all : find (s ++ binds_of bs) (was (suc n) p) ≡ Some (term_of_word w.word) =
+        both s (binds_of bs) (was (suc n) p) (was_unbound p none) ∙ w.at in
         let st = among_at n met (binds_of bs) (was (suc n) p) (term_of_word w.word) h w.at in
         let back : was (suc n) q ≡ x.from = ap (was (suc n)) x.to ∙ was_settled n met x.from (st.named x.from x.named) in
         subst (λ v. r.rank v < rank_was p) (sym back) (r.falls (was (suc n) p) x.from (term_of_word w.word) all x.named)
 
     pub settled_ranked : Ranked (s ++ settled (suc n) (binds_of bs))
-    settled_ranked = record { rank = rank_was; falls = λ p q t at m. go p q t (find s p) refl (sym (find-append s (settled (suc n) (binds_of bs)) p) ∙ at) m }
+    settled_ranked =
+        record {
+          rank = rank_was;
+          falls =
+              λ p q t at m. go p q t (find s p) refl (sym (find-append s (settled (suc n) (binds_of bs)) p) ∙ at) m;
+        }
       where
-        go : (p q : Variable) (t : Term Variable) (o : Option (Term Variable)) → find s p ≡ o → found_or o (find (settled (suc n) (binds_of bs)) p) ≡ Some t → Mentions q t → rank_was q < rank_was p
+        go : (p q : Variable) (t : Term Variable) (o : Option (Term Variable)) → find s p ≡ o
+            → found_or o (find (settled (suc n) (binds_of bs)) p) ≡ Some t → Mentions q t → rank_was q < rank_was p
         go p q t None e at m = new_falls p q t e at m
         go p q t (Some u) e at m = old_falls p q t (e ∙ at) m
 
   -- a variable that the first bindings leave unbound, its place too
-  settled_fresh : (met : ℕ) (bs : List Binding) (v : Variable) → AreAmong n met (binds_of bs) → IsAmong n met v → find (s ++ binds_of bs) v ≡ None → find (s ++ settled (suc n) (binds_of bs)) (settle (suc n) v) ≡ None
-  settled_fresh met bs v h i e = both s (settled (suc n) (binds_of bs)) (settle (suc n) v) (settled_unbound v (first_none (find s v) refl (sym (find-append s (binds_of bs) v) ∙ e))) ∙ last (find (settled (suc n) (binds_of bs)) (settle (suc n) v)) refl
+  settled_fresh : (met : ℕ) (bs : List Binding) (v : Variable) → AreAmong n met (binds_of bs) → IsAmong n met v
+      → find (s ++ binds_of bs) v ≡ None → find (s ++ settled (suc n) (binds_of bs)) (settle (suc n) v) ≡ None
+  settled_fresh met bs v h i e =
+      both s (settled (suc n) (binds_of bs)) (settle (suc n) v)
+      (settled_unbound v (first_none (find s v) refl (sym (find-append s (binds_of bs) v) ∙ e)))
+      ∙ last (find (settled (suc n) (binds_of bs)) (settle (suc n) v)) refl
     where
       first_none : (o : Option (Term Variable)) → find s v ≡ o → found_or o (find (binds_of bs) v) ≡ None → find s v ≡ None
       first_none None f g = f
@@ -169,30 +198,43 @@ module _ (n : ℕ) (s : Bindings) (old : AreAmong n 0 s) where
           differ : (o : Option (Term Variable)) (t : Term Variable) → o ≡ None → o ≡ Some t → ⊥
           differ o t a b = cc
 
-  settled-append : (bs cs : List Binding) → settled (suc n) (binds_of (bs ++ cs)) ≡ settled (suc n) (binds_of bs) ++ settled (suc n) (binds_of cs)
+  settled-append : (bs cs : List Binding)
+      → settled (suc n) (binds_of (bs ++ cs)) ≡ settled (suc n) (binds_of bs) ++ settled (suc n) (binds_of cs)
   settled-append [] cs = refl
-  settled-append (b ∷ bs) cs = ap (λ x. (settle (suc n) (variable_of b.variable), rename (settle (suc n)) (term_of_word b.word)) ∷ x) (settled-append bs cs)
+  settled-append (b ∷ bs) cs =
+      ap (λ x. (settle (suc n) (variable_of b.variable), rename (settle (suc n)) (term_of_word b.word)) ∷ x) (settled-append bs cs)
 
   binds_of-append : (bs cs : List Binding) → binds_of (bs ++ cs) ≡ binds_of bs ++ binds_of cs
   binds_of-append [] cs = refl
   binds_of-append (b ∷ bs) cs = ap (λ x. (variable_of b.variable, term_of_word b.word) ∷ x) (binds_of-append bs cs)
 
-  fresh_from : (met : ℕ) (done bs : List Binding) → AreAmong n met (binds_of done) → AreAmong n met (binds_of bs) → AreFresh (s ++ binds_of done) (binds_of bs) → AreFresh (s ++ settled (suc n) (binds_of done)) (settled (suc n) (binds_of bs))
+  fresh_from : (met : ℕ) (done bs : List Binding) → AreAmong n met (binds_of done) → AreAmong n met (binds_of bs)
+      → AreFresh (s ++ binds_of done) (binds_of bs) → AreFresh (s ++ settled (suc n) (binds_of done)) (settled (suc n) (binds_of bs))
   fresh_from met done [] a h f = tt
   fresh_from met done (b ∷ bs) a h f =
-      let more : (s ++ binds_of done) ++ binds_of (b ∷ []) ≡ s ++ binds_of (done ++ b ∷ []) = append_assoc s (binds_of done) (binds_of (b ∷ [])) ∙ ap (λ x. s ++ x) (sym (binds_of-append done (b ∷ []))) in
-      let settled_more : (s ++ settled (suc n) (binds_of done)) ++ settled (suc n) (binds_of (b ∷ [])) ≡ s ++ settled (suc n) (binds_of (done ++ b ∷ [])) = append_assoc s (settled (suc n) (binds_of done)) (settled (suc n) (binds_of (b ∷ []))) ∙ ap (λ x. s ++ x) (sym (settled-append done (b ∷ []))) in
-      let among : AreAmong n met (binds_of (done ++ b ∷ [])) = subst (AreAmong n met) (sym (binds_of-append done (b ∷ []))) (among-append n met (binds_of done) (binds_of (b ∷ [])) a (h.0, h.1, tt)) in (
+      let more : (s ++ binds_of done) ++ binds_of (b ∷ []) ≡ s ++ binds_of (done ++ b ∷ []) =
+      append_assoc s (binds_of done) (binds_of (b ∷ [])) ∙ ap (λ x. s ++ x) (sym (binds_of-append done (b ∷ []))) in
+      let settled_more : (s ++ settled (suc n) (binds_of done)) ++ settled (suc n) (binds_of (b ∷ []))
+      ≡ s ++ settled (suc n) (binds_of (done ++ b ∷ [])) =
+      append_assoc s (settled (suc n) (binds_of done)) (settled (suc n) (binds_of (b ∷ [])))
+      ∙ ap (λ x. s ++ x) (sym (settled-append done (b ∷ []))) in
+      let among : AreAmong n met (binds_of (done ++ b ∷ [])) =
+      subst (AreAmong n met) (sym (binds_of-append done (b ∷ [])))
+      (among-append n met (binds_of done) (binds_of (b ∷ [])) a (h.0, h.1, tt)) in (
         settled_fresh met done (variable_of b.variable) a h.0 f.0,
-        subst (λ x. AreFresh x (settled (suc n) (binds_of bs))) (sym settled_more) (fresh_from met (done ++ b ∷ []) bs among h.2 (subst (λ x. AreFresh x (binds_of bs)) more f.1)),
+        subst (λ x. AreFresh x (settled (suc n) (binds_of bs))) (sym settled_more)
+            (fresh_from met (done ++ b ∷ []) bs among h.2 (subst (λ x. AreFresh x (binds_of bs)) more f.1)),
       )
 
 -- what a try leaves, once its variables have their places
-pub settled_fresh_in : (n met : ℕ) (s : Bindings) (bs : List Binding) → IsTrial n met s (binds_of bs) → AreFresh s (settled (suc n) (binds_of bs))
+pub settled_fresh_in : (n met : ℕ) (s : Bindings) (bs : List Binding) → IsTrial n met s (binds_of bs)
+    → AreFresh s (settled (suc n) (binds_of bs))
 settled_fresh_in n met s bs h = rw append-nil at (fresh_from n s h.old met [] bs tt h.among (rw append-nil h.fresh))
 
-pub settled_sound : (n met : ℕ) (s : Bindings) (bs : List Binding) → IsTrial n met s (binds_of bs) → IsSound (suc n) (s ++ settled (suc n) (binds_of bs))
+pub settled_sound : (n met : ℕ) (s : Bindings) (bs : List Binding) → IsTrial n met s (binds_of bs)
+    → IsSound (suc n) (s ++ settled (suc n) (binds_of bs))
 settled_sound n met s bs h = record {
   ranked = settled_ranked n s h.old met bs h.among h.ranked;
-  among = among-append (suc n) 0 s (settled (suc n) (binds_of bs)) (are_among_more n (suc n) 0 0 s (omega arith) (omega arith) h.old) (are_settled_among n met bs h.among);
+  among = among-append (suc n) 0 s (settled (suc n) (binds_of bs)) (are_among_more n (suc n) 0 0 s (omega arith) (omega arith) h.old)
+      (are_settled_among n met bs h.among);
 }

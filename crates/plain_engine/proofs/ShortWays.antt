@@ -30,7 +30,8 @@ itself s w rest r = record { same_value = λ l x. x; same_marked = λ l x. x; no
 
 -- a shortcut of its variable
 pub var_nearer : (s : Bindings) (p : Place) (w : Word) → IsShortcut s p w → IsNoFarther s (Var (Made p)) w
-var_nearer s p w h rest r = let both = h rest r in record { same_value = both.0.same_value; same_marked = both.1.same_value; not_farther = omega (arith, both.0.nearer) }
+var_nearer s p w h rest r = let both = h rest r in
+    record { same_value = both.0.same_value; same_marked = both.1.same_value; not_farther = omega (arith, both.0.nearer) }
 
 pub ro_nearer : (s : Bindings) (p : Place) (w : Word) → IsShortcut s p w → IsNoFarther s (ReadOnly (Made p)) (marked w)
 ro_nearer s p w h rest r = let both = h rest r in record {
@@ -43,7 +44,8 @@ ro_nearer s p w h rest r = let both = h rest r in record {
 pub stays : (s b : Bindings) (p : Place) (w : Word) → IsShortcut s p w → IsShortcut (s ++ b) p w
 stays s b p w h rest r =
     let same : s ++ (b ++ rest) ≡ (s ++ b) ++ rest = sym (append_assoc s b rest) in
-    subst (λ x. LeadsTo x (Var (Made p)) w × LeadsTo x (ReadOnly (Made p)) (marked w)) same (h (b ++ rest) (subst Ranked (append_assoc s b rest) r))
+    subst (λ x. LeadsTo x (Var (Made p)) w × LeadsTo x (ReadOnly (Made p)) (marked w)) same
+    (h (b ++ rest) (subst Ranked (append_assoc s b rest) r))
 
 pub all_stay : (s b : Bindings) (es : List (Place × Word)) → AreShortcuts s es → AreShortcuts (s ++ b) es
 all_stay s b [] h = tt
@@ -53,14 +55,16 @@ all_stay s b (e ∷ es) h = (stays s b e.0 e.1 h.0, all_stay s b es h.1)
 same_self : (p : Place) → is_same_place p p ≡ true
 same_self p = grind (arith, nat_tests)
 
-now_found : (s rest : Bindings) (p : Place) (w : Word) → find s (made p) ≡ None → find ((s ++ (made p, term_of_word w) ∷ []) ++ rest) (made p) ≡ Some (term_of_word w)
+now_found : (s rest : Bindings) (p : Place) (w : Word) → find s (made p) ≡ None
+    → find ((s ++ (made p, term_of_word w) ∷ []) ++ rest) (made p) ≡ Some (term_of_word w)
 now_found s rest p w none =
     ap (λ x. find x (made p)) (append_assoc s ((made p, term_of_word w) ∷ []) rest)
     ∙ (find-append s ((made p, term_of_word w) ∷ rest) (made p)
     ∙ (ap (λ x. found_or x (find ((made p, term_of_word w) ∷ rest) (made p))) none
     ∙ ap (λ b. if b then Some (term_of_word w) else find rest (made p)) (same_self p)))
 
-pub new_shortcut : (s : Bindings) (p : Place) (w v : Word) → find s (made p) ≡ None → IsNoFarther s w v → IsShortcut (s ++ (made p, term_of_word w) ∷ []) p v
+pub new_shortcut : (s : Bindings) (p : Place) (w v : Word) → find s (made p) ≡ None → IsNoFarther s w v
+    → IsShortcut (s ++ (made p, term_of_word w) ∷ []) p v
 new_shortcut s p w v none near rest r =
     let all : Bindings = (s ++ (made p, term_of_word w) ∷ []) ++ rest in
     let found : find all (made p) ≡ Some (term_of_word w) = now_found s rest p w none in
@@ -69,7 +73,10 @@ new_shortcut s p w v none near rest r =
     let one = var_on all (Made p) w r found in
     let two = ro_on all (Made p) w r found in (
       record { same_value = λ l x. one.same_value l (on.same_value l x); nearer = omega (arith, one.nearer, on.not_farther) },
-      record { same_value = λ l x. two.same_value l (on.same_marked l x); nearer = omega (arith, two.nearer, on.not_farther, left_marked all v, left_marked all w) },
+      record {
+        same_value = λ l x. two.same_value l (on.same_marked l x);
+        nearer = omega (arith, two.nearer, on.not_farther, left_marked all v, left_marked all w);
+      },
     )
 
 -- kept for a place
@@ -77,26 +84,31 @@ pub kept : (s : Bindings) (es : List (Place × Word)) (p : Place) → AreShortcu
 kept s [] p h = tt
 kept s (e ∷ es) p h = go (is_same_place p e.0) refl (kept s es p h.1)
   where
-    go : (b : Bool) → is_same_place p e.0 ≡ b → IfSome (lookup (is_same_place p) es) (IsShortcut s p) → IfSome (cond b (Some e.1) (lookup (is_same_place p) es)) (IsShortcut s p)
+    go : (b : Bool) → is_same_place p e.0 ≡ b → IfSome (lookup (is_same_place p) es) (IsShortcut s p)
+        → IfSome (cond b (Some e.1) (lookup (is_same_place p) es)) (IsShortcut s p)
     go true same rec = subst (λ q. IsShortcut s q e.1) (sym (is_same_place-true p e.0 same)) h.0
     go false same rec = rec
 
-pub one_kept : (s : Bindings) (es : List (Place × Word)) (p : Place) (w : Word) → AreShortcuts s es → IsShortcut s p w → AreShortcuts s (insert_entry is_same_place es p w)
+pub one_kept : (s : Bindings) (es : List (Place × Word)) (p : Place) (w : Word) → AreShortcuts s es → IsShortcut s p w
+    → AreShortcuts s (insert_entry is_same_place es p w)
 one_kept s [] p w h i = (i, tt)
 one_kept s (e ∷ es) p w h i = go (is_same_place p e.0) refl (one_kept s es p w h.1 i)
   where
-    go : (b : Bool) → is_same_place p e.0 ≡ b → AreShortcuts s (insert_entry is_same_place es p w) → AreShortcuts s (if b then (e.0, w) ∷ es else e ∷ insert_entry is_same_place es p w)
+    go : (b : Bool) → is_same_place p e.0 ≡ b → AreShortcuts s (insert_entry is_same_place es p w)
+        → AreShortcuts s (if b then (e.0, w) ∷ es else e ∷ insert_entry is_same_place es p w)
     go true same rec = (subst (λ q. IsShortcut s q w) (is_same_place-true p e.0 same) i, h.1)
     go false same rec = (h.0, rec)
 
 -- one more is kept, or memory lacks for it
-pub after_insert : {A E : Type 0} (s : Bindings) (r : Result A E) (p : Place) (w : Word) (old new : List (Place × Word)) → OnOk r (new ≡ insert_entry is_same_place old p w) → OnErr r (new ≡ old)
+pub after_insert : {A E : Type 0} (s : Bindings) (r : Result A E) (p : Place) (w : Word) (old new : List (Place × Word))
+    → OnOk r (new ≡ insert_entry is_same_place old p w) → OnErr r (new ≡ old)
     → AreShortcuts s old → IsShortcut s p w → AreShortcuts s new
 after_insert s (Ok x) p w old new e f h i = subst (AreShortcuts s) (sym e) (one_kept s old p w h i)
 after_insert s (Err x) p w old new e f h i = subst (AreShortcuts s) (sym f) h
 
--- the shortcuts behind a further binding
-pub bound_more : {A E : Type 0} (es fs gs hs : List (Place × Word)) (r : Result A E) (p : Place) (w v : Word) → fs ≡ es ++ (p, w) ∷ [] → find (bound_of es) (made p) ≡ None → AreShortcuts (bound_of es) gs
+-- the shortcuts after a further binding
+pub bound_more : {A E : Type 0} (es fs gs hs : List (Place × Word)) (r : Result A E) (p : Place) (w v : Word) → fs ≡ es ++ (p, w) ∷ []
+    → find (bound_of es) (made p) ≡ None → AreShortcuts (bound_of es) gs
     → IsNoFarther (bound_of es) w v → OnOk r (hs ≡ insert_entry is_same_place gs p v) → OnErr r (hs ≡ gs) → AreShortcuts (bound_of fs) hs
 bound_more es fs gs hs r p w v is none old near e f =
     let s : Bindings = bound_of es in

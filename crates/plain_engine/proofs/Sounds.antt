@@ -22,7 +22,8 @@ among_more n n' met met' (own j) h k i = (i.0, omega (arith, i.1))
 
 pub are_among_more : (n n' met met' : ℕ) (bs : Bindings) → n ≤ n' → met ≤ met' → AreAmong n met bs → AreAmong n' met' bs
 are_among_more n n' met met' [] h k i = tt
-are_among_more n n' met met' (b ∷ bs) h k i = (among_more n n' met met' b.0 h k i.0, (λ q m. among_more n n' met met' q h k (i.1 q m)), are_among_more n n' met met' bs h k i.2)
+are_among_more n n' met met' (b ∷ bs) h k i =
+    (among_more n n' met met' b.0 h k i.0, (λ q m. among_more n n' met met' q h k (i.1 q m)), are_among_more n n' met met' bs h k i.2)
 
 pub among-append : (n met : ℕ) (as' bs : Bindings) → AreAmong n met as' → AreAmong n met bs → AreAmong n met (as' ++ bs)
 among-append n met [] bs h i = i
@@ -37,7 +38,8 @@ pub among_at : (n met : ℕ) (s : Bindings) (p : Variable) (t : Term Variable) �
 among_at n met [] p t h e = cc
 among_at n met (b ∷ bs) p t h e = go (is_same b.0 p) refl e (λ f. among_at n met bs p t h.2 f)
   where
-    go : (c : Bool) → is_same b.0 p ≡ c → cond c (Some b.1) (find bs p) ≡ Some t → (find bs p ≡ Some t → Stands n met p t) → Stands n met p t
+    go : (c : Bool) → is_same b.0 p ≡ c → cond c (Some b.1) (find bs p) ≡ Some t → (find bs p ≡ Some t → Stands n met p t)
+        → Stands n met p t
     go true same f rec =
         let here : b.1 ≡ t = cc in
         record { bound = subst (IsAmong n met) (is_same-true b.0 p same) h.0; named = λ q m. h.1 q (subst (Mentions q) (sym here) m) }
@@ -52,7 +54,8 @@ not_among n met s p h wrong = go (find s p) refl
     go (Some t) e = absurd (wrong (among_at n met s p t h e).bound)
 
 -- one binding more, put last
-pub fresh_more : (s bs : Bindings) (p : Variable) (t : Term Variable) → AreFresh s bs → find (s ++ bs) p ≡ None → AreFresh s (bs ++ (p, t) ∷ [])
+pub fresh_more : (s bs : Bindings) (p : Variable) (t : Term Variable) → AreFresh s bs → find (s ++ bs) p ≡ None
+    → AreFresh s (bs ++ (p, t) ∷ [])
 fresh_more s [] p t h e = (rw append-nil at e, tt)
 fresh_more s (b ∷ bs) p t h e = (h.0, fresh_more (s ++ b ∷ []) bs p t h.1 (ap (λ x. find x p) (append_assoc s (b ∷ []) bs) ∙ e))
 
@@ -65,11 +68,13 @@ open_among : (n met : ℕ) (only : Bool) (p : Variable) → IsAmong n met p → 
 open_among n met true p h = h
 open_among n met false p h = h
 
-value_of_among : (n met : ℕ) (s : Bindings) → AreAmong n met s → (k : ℕ) (only : Bool) (p : Variable) (l : Look) → IsAmong n met p → value_of k s only p ≡ Some l → LookAmong n met l
+value_of_among : (n met : ℕ) (s : Bindings) → AreAmong n met s → (k : ℕ) (only : Bool) (p : Variable) (l : Look) → IsAmong n met p
+    → value_of k s only p ≡ Some l → LookAmong n met l
 value_of_among n met s h zero only p l i e = cc
 value_of_among n met s h (suc k) only p l i e = go (λ b q j f. value_of_among n met s h k b q l j f) (find s p) refl e
   where
-    go : ((b : Bool) (q : Variable) → IsAmong n met q → value_of k s b q ≡ Some l → LookAmong n met l) → (o : Option (Term Variable)) → find s p ≡ o → through (value_of k s) only p o ≡ Some l → LookAmong n met l
+    go : ((b : Bool) (q : Variable) → IsAmong n met q → value_of k s b q ≡ Some l → LookAmong n met l) → (o : Option (Term Variable))
+        → find s p ≡ o → through (value_of k s) only p o ≡ Some l → LookAmong n met l
     go rec None at f = let same : open_place only p ≡ l = cc in subst (LookAmong n met) same (open_among n met only p i)
     go rec (Some (var q)) at f = rec only q ((among_at n met s p (var q) h at).named q refl) f
     go rec (Some (ro q)) at f = rec true q ((among_at n met s p (ro q) h at).named q refl) f
@@ -86,10 +91,14 @@ word_from_look n met (Var v) h = λ q m. subst (IsAmong n met) (sym m) h
 word_from_look n met (ReadOnly v) h = λ q m. subst (IsAmong n met) (sym m) h
 
 -- the value of a word is over the same variables
-pub value_among : (n met : ℕ) (s : Bindings) (w v : Word) → AreAmong n met s → IsWordAmong n met w → Values s (term_of_word w) (look_of v) → IsWordAmong n met v
-value_among n met s (Text c) v h i e = let same : solid (string c.0) ≡ look_of v = let f = e.1 in cc in word_from_look n met v (subst (LookAmong n met) same tt)
-value_among n met s (Var p) v h i e = word_from_look n met v (value_of_among n met s h e.0 false (variable_of p) (look_of v) (i (variable_of p) refl) e.1)
-value_among n met s (ReadOnly p) v h i e = word_from_look n met v (value_of_among n met s h e.0 true (variable_of p) (look_of v) (i (variable_of p) refl) e.1)
+pub value_among : (n met : ℕ) (s : Bindings) (w v : Word) → AreAmong n met s → IsWordAmong n met w → Values s (term_of_word w) (look_of v)
+    → IsWordAmong n met v
+value_among n met s (Text c) v h i e = let same : solid (string c.0) ≡ look_of v = let f = e.1 in cc in
+    word_from_look n met v (subst (LookAmong n met) same tt)
+value_among n met s (Var p) v h i e =
+    word_from_look n met v (value_of_among n met s h e.0 false (variable_of p) (look_of v) (i (variable_of p) refl) e.1)
+value_among n met s (ReadOnly p) v h i e =
+    word_from_look n met v (value_of_among n met s h e.0 true (variable_of p) (look_of v) (i (variable_of p) refl) e.1)
 
 plain_word : (w : Word) → plain (term_of_word w) ≡ term_of_word w
 plain_word (Text c) = refl
@@ -101,9 +110,12 @@ pub all_among : (n met : ℕ) (s bs : Bindings) → IsTrial n met s bs → AreAm
 all_among n met s bs h = among-append n met s bs (are_among_more n n 0 met s (omega arith) (omega arith) h.old) h.among
 
 -- a binding of an unbound variable to a word that does not lead to it
-pub one_bound : (n met met' : ℕ) (s bs : Bindings) (p : Variable) (w : Word) → IsTrial n met s bs → met ≤ met' → find (s ++ bs) p ≡ None → IsAmong n met' p → IsWordAmong n met' w → LeadsNowhere (s ++ bs) p (term_of_word w) → IsTrial n met' s (bs ++ (p, term_of_word w) ∷ [])
+pub one_bound : (n met met' : ℕ) (s bs : Bindings) (p : Variable) (w : Word) → IsTrial n met s bs → met ≤ met' → find (s ++ bs) p ≡ None
+    → IsAmong n met' p → IsWordAmong n met' w → LeadsNowhere (s ++ bs) p (term_of_word w)
+    → IsTrial n met' s (bs ++ (p, term_of_word w) ∷ [])
 one_bound n met met' s bs p w h more unbound i j nowhere = record {
-  ranked = subst Ranked (append_assoc s bs ((p, term_of_word w) ∷ [])) (subst (λ t. Ranked ((s ++ bs) ++ (p, t) ∷ [])) (plain_word w) (Ranked-bind (s ++ bs) h.ranked p (term_of_word w) unbound nowhere));
+  ranked = subst Ranked (append_assoc s bs ((p, term_of_word w) ∷ []))
+      (subst (λ t. Ranked ((s ++ bs) ++ (p, t) ∷ [])) (plain_word w) (Ranked-bind (s ++ bs) h.ranked p (term_of_word w) unbound nowhere));
   old = h.old;
   among = among-append n met' bs ((p, term_of_word w) ∷ []) (are_among_more n n met met' bs (omega arith) more h.among) (i, j, tt);
   fresh = fresh_more s bs p (term_of_word w) h.fresh unbound;
@@ -117,14 +129,19 @@ not_own n met k (own j) h i = different k j (omega (arith, i.1))
     different a b g = grind (arith, nat_tests)
 
 -- a variable that stands for the first time takes an argument
-pub first_bound : (n met k : ℕ) (s bs : Bindings) (w : Word) → IsTrial n met s bs → met < k → IsOld n w → IsTrial n (max met k) s (bs ++ (own k, term_of_word w) ∷ [])
+pub first_bound : (n met k : ℕ) (s bs : Bindings) (w : Word) → IsTrial n met s bs → met < k → IsOld n w
+    → IsTrial n (max met k) s (bs ++ (own k, term_of_word w) ∷ [])
 first_bound n met k s bs w h above old =
     let all = all_among n met s bs h in
     one_bound n met (max met k) s bs (own k) w h (omega arith)
     (not_among n met (s ++ bs) (own k) all (λ i. omega (arith, i.1)))
     (omega arith, omega arith)
     (λ q m. among_more n n 0 (max met k) q (omega arith) (omega arith) (old q m))
-    (record { each = λ q m. unreached (s ++ bs) (own k) (λ v q' t e i. not_own n met k q' above ((among_at n met (s ++ bs) v t all e).named q' i)) (length (s ++ bs)) q (not_own n 0 k q (omega arith) (old q m)) })
+    (record {
+      each =
+          λ q m. unreached (s ++ bs) (own k) (λ v q' t e i. not_own n met k q' above ((among_at n met (s ++ bs) v t all e).named q' i))
+          (length (s ++ bs)) q (not_own n 0 k q (omega arith) (old q m));
+    })
 
 -- the variable of a word is another one
 abbrev pub IsOther : Variable → Word → Type 0
@@ -134,12 +151,16 @@ IsOther p (ReadOnly v) = is_same p (variable_of v) ≡ false
 
 value_nowhere : (s : Bindings) (r : Ranked s) (p : Variable) (w : Word) → IsAtEnd s w → IsOther p w → LeadsNowhere s p (term_of_word w)
 value_nowhere s r p (Text c) e o = record { each = λ q m. absurd m }
-value_nowhere s r p (Var v) e o = record { each = λ q m. subst (λ x. reach (length s) s p x ≡ false) (sym m) (not_there s r p (variable_of v) e o) }
-value_nowhere s r p (ReadOnly v) e o = record { each = λ q m. subst (λ x. reach (length s) s p x ≡ false) (sym m) (not_there s r p (variable_of v) e o) }
+value_nowhere s r p (Var v) e o =
+    record { each = λ q m. subst (λ x. reach (length s) s p x ≡ false) (sym m) (not_there s r p (variable_of v) e o) }
+value_nowhere s r p (ReadOnly v) e o =
+    record { each = λ q m. subst (λ x. reach (length s) s p x ≡ false) (sym m) (not_there s r p (variable_of v) e o) }
 
 -- an unbound variable is bound to a value that is another one
-pub value_bound : (n met : ℕ) (s bs : Bindings) (p : Variable) (w : Word) → IsTrial n met s bs → find (s ++ bs) p ≡ None → IsAmong n met p → IsWordAmong n met w → IsAtEnd (s ++ bs) w → IsOther p w → IsTrial n met s (bs ++ (p, term_of_word w) ∷ [])
-value_bound n met s bs p w h unbound i j e o = one_bound n met met s bs p w h (omega arith) unbound i j (value_nowhere (s ++ bs) h.ranked p w e o)
+pub value_bound : (n met : ℕ) (s bs : Bindings) (p : Variable) (w : Word) → IsTrial n met s bs → find (s ++ bs) p ≡ None → IsAmong n met p
+    → IsWordAmong n met w → IsAtEnd (s ++ bs) w → IsOther p w → IsTrial n met s (bs ++ (p, term_of_word w) ∷ [])
+value_bound n met s bs p w h unbound i j e o =
+    one_bound n met met s bs p w h (omega arith) unbound i j (value_nowhere (s ++ bs) h.ranked p w e o)
 
 -- before the first binding
 pub trial_first : (n : ℕ) (s : Bindings) → IsSound n s → IsTrial n 0 s []

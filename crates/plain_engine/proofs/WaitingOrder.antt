@@ -25,7 +25,9 @@ older_parts p q h = ⊎_elim
 
 older_from : (p q : Proc) → IsEarlier p q → is_older_process p q ≡ true
 older_from p q (inl l) = or_left (ltb p.entry q.entry) (eqb p.entry q.entry && ltb p.number q.number) (lt-ltb p.entry q.entry l)
-older_from p q (inr h) = or_right (ltb p.entry q.entry) (eqb p.entry q.entry && ltb p.number q.number) (and_from (eqb p.entry q.entry) (ltb p.number q.number) (eq-eqb p.entry q.entry h.0) (lt-ltb p.number q.number h.1))
+older_from p q (inr h) =
+    or_right (ltb p.entry q.entry) (eqb p.entry q.entry && ltb p.number q.number)
+    (and_from (eqb p.entry q.entry) (ltb p.number q.number) (eq-eqb p.entry q.entry h.0) (lt-ltb p.number q.number h.1))
 
 older_trans : (p q r : Proc) → is_older_process p q ≡ true → is_older_process q r ≡ true → is_older_process p r ≡ true
 older_trans p q r h i = older_from p r (go (older_parts p q h) (older_parts q r i))
@@ -49,30 +51,34 @@ pub rise_filter : (t : run.Process → Bool) (ps : List run.Process) → NamesRi
 rise_filter t [] h = tt
 rise_filter t (p ∷ ps) h = go (t p) (each_filter (λ q. is_older_process p.name q.name ≡ true) t ps h.0) (rise_filter t ps h.1)
   where
-    go : (b : Bool) → Each (λ q. is_older_process p.name q.name ≡ true) (filter t ps) → NamesRise (filter t ps) → NamesRise (cond b (p ∷ filter t ps) (filter t ps))
+    go : (b : Bool) → Each (λ q. is_older_process p.name q.name ≡ true) (filter t ps) → NamesRise (filter t ps)
+        → NamesRise (cond b (p ∷ filter t ps) (filter t ps))
     go true i j = (i, j)
     go false i j = j
 
--- a process of the name n goes behind the waiting one
+-- a process of the name n goes after the waiting one
 abbrev pub goes_behind : Proc → Waiting → Bool
 goes_behind n w = not (is_older_process n w.process.name)
 
-younger_at : (n : Proc) (ws : List Waiting) → Each (λ q. is_older_process n q.name ≡ true) (map waiting_process ws) → (j : ℕ) (d : Waiting) → j < length ws → is_older_process n (get_or ws j d).process.name ≡ true
+younger_at : (n : Proc) (ws : List Waiting) → Each (λ q. is_older_process n q.name ≡ true) (map waiting_process ws)
+    → (j : ℕ) (d : Waiting) → j < length ws → is_older_process n (get_or ws j d).process.name ≡ true
 younger_at n [] h j d l = absurd (omega arith)
 younger_at n (w ∷ ws) h zero d l = h.0
 younger_at n (w ∷ ws) h (suc j) d l = younger_at n ws h.1 j d (omega arith)
 
-parted : (n : Proc) (ws : List Waiting) → NamesRise (map waiting_process ws) → (i j : ℕ) (d : Waiting) → i ≤ j → j < length ws → goes_behind n (get_or ws j d) ≡ true → goes_behind n (get_or ws i d) ≡ true
+parted : (n : Proc) (ws : List Waiting) → NamesRise (map waiting_process ws) → (i j : ℕ) (d : Waiting) → i ≤ j → j < length ws
+    → goes_behind n (get_or ws j d) ≡ true → goes_behind n (get_or ws i d) ≡ true
 parted n [] r i j d h l e = absurd (omega arith)
 parted n (w ∷ ws) r zero zero d h l e = e
 parted n (w ∷ ws) r zero (suc j) d h l e =
     let last : Proc = (get_or ws j d).process.name in
     not_from_false (is_older_process n w.process.name) (false_from_ne_true (is_older_process n w.process.name)
-    (λ o. both_ways (is_older_process n last) (not-true (is_older_process n last) e) (older_trans n w.process.name last o (younger_at w.process.name ws r.0 j d (omega arith)))))
+    (λ o. both_ways (is_older_process n last) (not-true (is_older_process n last) e)
+    (older_trans n w.process.name last o (younger_at w.process.name ws r.0 j d (omega arith)))))
 parted n (w ∷ ws) r (suc i) zero d h l e = absurd (omega arith)
 parted n (w ∷ ws) r (suc i) (suc j) d h l e = parted n ws r.1 i j d (omega arith) (omega arith) e
 
--- those that the process goes behind stand before the others
+-- those after which the process goes stand before the others
 pub waiting_parted : (n : Proc) (ws : List Waiting) → NamesRise (map waiting_process ws) → IsPartitionedBy (goes_behind n) ws
 waiting_parted n ws r = parted n ws r
 
@@ -80,7 +86,7 @@ waiting_parted n ws r = parted n ws r
 abbrev placed_by : Bool → run.Process → run.Process → List run.Process → List run.Process
 placed_by b p q qs = elim b [ true ↦ p ∷ q ∷ qs | _ ↦ q ∷ with_process p qs ]
 
--- behind the first k, where it goes behind each of these and behind none of the others
+-- after the first k, where it goes after each of these and after none of the others
 pub placed_at : (n : Proc) (p : run.Process) (ws : List Waiting) (k : ℕ) → p.name ≡ n → k ≤ length ws
     → ((i : ℕ) (d : Waiting) → 0 ≤ i → i < k → goes_behind n (get_or ws i d) ≡ true)
     → ((i : ℕ) (d : Waiting) → k ≤ i → i < length ws → goes_behind n (get_or ws i d) ≡ false)
@@ -88,7 +94,12 @@ pub placed_at : (n : Proc) (p : run.Process) (ws : List Waiting) (k : ℕ) → p
 placed_at n p [] zero same h before behind = refl
 placed_at n p [] (suc k) same h before behind = refl
 placed_at n p (w ∷ ws) zero same h before behind =
-    ap (λ b. placed_by b p (waiting_process w) (map waiting_process ws)) (subst (λ m. is_older_process m w.process.name ≡ true) (sym same) (not-false (is_older_process n w.process.name) (behind zero w (omega arith) (omega arith))))
+    ap (λ b. placed_by b p (waiting_process w) (map waiting_process ws))
+    (subst (λ m. is_older_process m w.process.name ≡ true) (sym same)
+    (not-false (is_older_process n w.process.name) (behind zero w (omega arith) (omega arith))))
 placed_at n p (w ∷ ws) (suc k) same h before behind =
-    ap (λ b. placed_by b p (waiting_process w) (map waiting_process ws)) (subst (λ m. is_older_process m w.process.name ≡ false) (sym same) (not-true (is_older_process n w.process.name) (before zero w (omega arith) (omega arith))))
-    ∙ ap (λ ps. waiting_process w ∷ ps) (placed_at n p ws k same (omega arith) (λ i d a b. before (suc i) d (omega arith) (omega arith)) (λ i d a b. behind (suc i) d (omega arith) (omega arith)))
+    ap (λ b. placed_by b p (waiting_process w) (map waiting_process ws))
+    (subst (λ m. is_older_process m w.process.name ≡ false) (sym same)
+    (not-true (is_older_process n w.process.name) (before zero w (omega arith) (omega arith))))
+    ∙ ap (λ ps. waiting_process w ∷ ps) (placed_at n p ws k same (omega arith) (λ i d a b. before (suc i) d (omega arith) (omega arith))
+    (λ i d a b. behind (suc i) d (omega arith) (omega arith)))

@@ -26,10 +26,13 @@ word_text names (ReadOnly v) = variable_text (variable_of v) ++ codes "?"
 
 -- the line of a commit, whose bindings have a text
 abbrev pub commit_line : ℕ → Proc → ℕ → Bytes → List Proc → Bytes
-commit_line entry process clause bindings woken = decimal entry ++ codes " " ++ (codes "commit " ++ process_text process ++ codes " " ++ decimal clause ++ bindings ++ woken_text woken) ++ codes "\n"
+commit_line entry process clause bindings woken =
+    decimal entry ++ codes " " ++ (codes "commit " ++ process_text process ++ codes " " ++ decimal clause ++ bindings ++ woken_text woken)
+    ++ codes "\n"
 
 -- the line of a commit was put after a text, with the bindings by value in the map `bound`
-pub record AddsCommit (old new : Bytes) (names : List Bytes) (bound : Bindings) (entry : ℕ) (process : Proc) (clause : ℕ) (bindings : Bindings) (woken : List Proc) : Type 0 where
+pub record AddsCommit (old new : Bytes) (names : List Bytes) (bound : Bindings) (entry : ℕ) (process : Proc) (clause : ℕ)
+    (bindings : Bindings) (woken : List Proc) : Type 0 where
   pub shown : Bytes
   pub given : Gives (λ n. bound_places_text n names bound entry bindings) shown
   pub behind : new ≡ old ++ commit_line entry process clause shown woken

@@ -26,7 +26,8 @@ clauses_for m procedure args = clauses_of (program_of m) procedure (length (map 
 -- the clauses at these positions of the module are those for the call, in order
 abbrev pub ArePositionsFor : Module → ℕ → List Word → List ℕ → Type 0
 ArePositionsFor m procedure args positions =
-    map (λ at. option_map (clause_of (procedure_names m.clauses)) (slice_get m.clauses at)) positions ≡ map Some (clauses_for m procedure args)
+    map (λ at. option_map (clause_of (procedure_names m.clauses)) (slice_get m.clauses at)) positions
+    ≡ map Some (clauses_for m procedure args)
 
 -- the decision, by the definitions, with some reads; a waiting set is that of the reads
 abbrev pub DecidesAs : Program → Bindings → Goal Variable → Decision → Type 0

@@ -1,17 +1,22 @@
 -- What the engine keeps: it stands where the run of one worker stands.
-use Rattle.std.specs.Prelude.{◌≡◌, ℕ, suc, ◌+◌, ◌≤◌, ◌<◌, true, not, List, [], ◌∷◌, ◌++◌, map, filter, length, ◌-◌, slice_get, Some, codes}
+use Rattle.std.specs.Prelude.{◌≡◌, ℕ, suc, ◌+◌, ◌≤◌, ◌<◌, true, List, [], ◌∷◌, ◌++◌, map, length, ◌-◌, slice_get, Some}
 use Rattle.fcp_model.specs.declared.run.Place.{Place}
 use Rattle.fcp_model.specs.declared.source.Clause as read
 use Rattle.fcp_model.specs.ProcedureNames.{procedure_names}
 use Rattle.fcp_model.specs.Places.{Variable}
 use Rattle.fcp_model.specs.Terms.{Term}
 use Rattle.fcp_model.specs.Programs.{Goal, user, true', unifies, assigns}
+use Rattle.fcp_model.specs.Decisions.{Decision, Decides}
 use Rattle.fcp_model.specs.States as run
-use Rattle.fcp_model.specs.Events.{Event, settled, is_woken, made_ready, children_of}
+use Rattle.fcp_model.specs.Events.{Event, settled, made_ready, children_of}
 use Rattle.fcp_model.specs.OneWorker.{Schedule, Leads, IsOneWorkerRun, ruling, begin, ends}
 use Rattle.fcp_laws.specs.WaitingProcesses.{waiting_of, with_process}
 use Rattle.fcp_model.specs.LogText.{log_head, event_lines}
 use Rattle.fcp_model.specs.LogLines.{hang_line, fail_line}
+use Rattle.fcp_model.specs.Reports.{IsOneWorkerReport}
+use Rattle.fcp_model.specs.ReportText.{goal_variables}
+use Rattle.fcp_model.specs.declared.run.Outcome.{Outcome}
+use Rattle.fcp_model.specs.Spelling.{Bytes}
 use Rattle.fcp_model.specs.Ranks.{Mentions}
 use Rattle.fcp_model.specs.Translation.{program_of, start_of, clause_of}
 use Rattle.plain_engine.specs.CalledItems.{bodies_called, goal_called}
@@ -25,8 +30,8 @@ use Rattle.plain_engine.specs.Words.{binds_of, bound_of}
 use Rattle.plain_engine.specs.Plain.{IsPlain, IsPlainGoal}
 use Rattle.plain_engine.specs.Sound.{IsAmong, IsSound, AreFresh}
 use Rattle.plain_engine.specs.Additions.{Adds, AddsCommit}
-use Rattle.plain_engine.specs.Deciding.{clauses_for}
-use Rattle.plain_engine.specs.Processes.{process_of, waiting_process}
+use Rattle.plain_engine.specs.Deciding.{clauses_for, Settles}
+use Rattle.plain_engine.specs.Processes.{process_of, waiting_process, woken_among, asleep_among}
 
 -- the task is of strings and variables alone, and each item calls a procedure of the module
 pub record IsTask (t : Task) : Type 0 where
@@ -80,6 +85,15 @@ pub record IsReached (t : Task) (front : List run.Process) (e : Engine) : Type 0
   pub old_waiting : AreOldGoals (length (procedure_names t.loaded.now.clauses)) e.moves (waiting_of at.state.processes)
   pub within : e.cells ≤ t.limits.cells
 
+-- what is decided, with some reads, for a process where the engine stands
+abbrev pub DecidesFor : Task → Engine → Process → Decision → Type 0
+DecidesFor t e p d = Decides (program_of t.loaded.now) (bound_of e.store) (process_of p).goal d
+
+-- what the commit of the process by a clause leaves there
+abbrev pub SettlesFor : Task → Engine → Process → ℕ → List Binding → Type 0
+SettlesFor t e p clause bindings =
+    Settles e.moves (program_of t.loaded.now) (bound_of e.store) (process_of p).goal clause (binds_of bindings)
+
 -- what a commit has to find
 pub record MayCommit (t : Task) (e : Engine) (p : Process) (clause : ℕ) (bindings : List Binding) (cells : ℕ) : Type 0 where
   pub task : IsTask t
@@ -95,13 +109,17 @@ pub record MayCommit (t : Task) (e : Engine) (p : Process) (clause : ℕ) (bindi
 -- what a commit makes
 pub record Commits (t : Task) (old new : Engine) (p : Process) (clause : ℕ) (bindings : List Binding) (cells : ℕ) : Type 0 where
   pub used : read.Clause
-  pub is_used : slice_get (clauses_for t.loaded.now p.procedure p.args.items) (clause - 1) ≡ Some (clause_of (procedure_names t.loaded.now.clauses) used)
+  pub is_used : slice_get (clauses_for t.loaded.now p.procedure p.args.items) (clause - 1)
+      ≡ Some (clause_of (procedure_names t.loaded.now.clauses) used)
   pub position : ℕ
   pub in_text : slice_get t.loaded.now.clauses position ≡ Some used
   pub bound : bound_of new.store ≡ bound_of old.store ++ settled (old.moves + 1) (binds_of bindings)
-  pub queue : map process_of new.queue.items ≡ map process_of old.queue.items ++ children_of (old.moves + 1) (Some (clause_of (procedure_names t.loaded.now.clauses) used)) ++ map made_ready (filter (λ q. is_woken (binds_of bindings) q.status) (map waiting_process old.waiting.items))
-  pub waiting : map waiting_process new.waiting.items ≡ filter (λ q. not (is_woken (binds_of bindings) q.status)) (map waiting_process old.waiting.items)
-  pub text : AddsCommit old.text.items new.text.items t.names.now (bound_of new.store) (old.moves + 1) p.name clause (binds_of bindings) (map (λ q. q.name) (filter (λ q. is_woken (binds_of bindings) q.status) (map waiting_process old.waiting.items)))
+  pub queue : map process_of new.queue.items
+      ≡ map process_of old.queue.items ++ children_of (old.moves + 1) (Some (clause_of (procedure_names t.loaded.now.clauses) used))
+      ++ map made_ready (woken_among bindings old.waiting.items)
+  pub waiting : map waiting_process new.waiting.items ≡ asleep_among bindings old.waiting.items
+  pub text : AddsCommit old.text.items new.text.items t.names.now (bound_of new.store) (old.moves + 1) p.name clause (binds_of bindings)
+      (map (λ q. q.name) (woken_among bindings old.waiting.items))
   pub passed : new.passed ≡ 0
   pub commits : new.commits ≡ old.commits + 1
   pub moves : new.moves ≡ old.moves + 1
@@ -111,7 +129,8 @@ pub record Commits (t : Task) (old new : Engine) (p : Process) (clause : ℕ) (b
 pub record Hangs (old new : Engine) (p : Process) (places : List Place) (cells : ℕ) : Type 0 where
   pub store : new.store ≡ old.store
   pub queue : new.queue ≡ old.queue
-  pub waiting : map waiting_process new.waiting.items ≡ with_process (record (process_of p) { status = run.waiting places }) (map waiting_process old.waiting.items)
+  pub waiting : map waiting_process new.waiting.items
+      ≡ with_process (record (process_of p) { status = run.waiting places }) (map waiting_process old.waiting.items)
   pub text : new.text.items ≡ old.text.items ++ hang_line (old.moves + 1) p.name places
   pub passed : new.passed ≡ 0
   pub commits : new.commits ≡ old.commits
@@ -162,6 +181,13 @@ pub record HasFailed (t : Task) (e : Engine) : Type 0 where
 -- what one ruling does, after so many moves, with so many processes in the queue and so many of them at its back
 abbrev pub RuleGives : Task → ℕ → ℕ → ℕ → Engine → Ruled → Type 0
 RuleGives t moves queued passed e ruled.Ends = HasEnded t e
-RuleGives t moves queued passed e ruled.Passes = IsReached t [] e × (e.moves ≡ moves) × (length e.queue.items ≡ queued) × (e.passed ≡ passed + 1) × (passed < queued)
+RuleGives t moves queued passed e ruled.Passes =
+    IsReached t [] e × (e.moves ≡ moves) × (length e.queue.items ≡ queued) × (e.passed ≡ passed + 1) × (passed < queued)
 RuleGives t moves queued passed e ruled.Makes = IsReached t [] e × (e.moves ≡ moves + 1) × (e.moves ≤ t.limits.moves)
 RuleGives t moves queued passed e ruled.Fails = HasFailed t e
+
+-- the bytes are the report of the task's run of one worker, without controls
+abbrev pub IsReportOf : Task → Outcome → Bytes → Type 0
+IsReportOf t o bytes =
+    IsOneWorkerReport (program_of t.loaded.now) (start_of t.loaded.now t.goal.now) t.limits [] t.names.now
+    (goal_variables t.goal.now.names) o bytes

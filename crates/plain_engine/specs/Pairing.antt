@@ -94,4 +94,5 @@ pub record HeadEnds (s : Bindings) (old new : Trail) (args : List Word) (head : 
   pub reads : List Variable
   pub more_reads : read_by new ≡ read_by old ++ reads
   pub steps : ℕ
-  pub ends : (n : ℕ) → steps ≤ n → unify n s [] [] (head_pairs 0 (map term_of_word args) (map term_of head)) ≡ Some (ending_of d (bound_by new) reads)
+  pub ends : (n : ℕ) → steps ≤ n
+      → unify n s [] [] (head_pairs 0 (map term_of_word args) (map term_of head)) ≡ Some (ending_of d (bound_by new) reads)

@@ -25,7 +25,7 @@ marked (Text s) = Text s
 marked (Var v) = ReadOnly v
 marked (ReadOnly v) = ReadOnly v
 
--- one more than `next` gives behind the variable
+-- one more than `next` gives after the variable
 abbrev pub one_more : (Variable → ℕ) → Option (Term Variable) → ℕ
 one_more next None = 0
 one_more next (Some (var q)) = suc (next q)

@@ -1,14 +1,12 @@
 ghost use Rattle.std.specs.Prelude.{◌≡◌, ◌++◌, true, map, IfOk, OnOk};
 ghost use Rattle.fcp_model.specs.Places.{placed};
 ghost use Rattle.fcp_model.specs.Terms.{rename};
-ghost use Rattle.fcp_model.specs.Translation.{term_of, goal_of, goals_of};
-ghost use Rattle.fcp_model.specs.Programs.{rename_goal};
-ghost use Rattle.fcp_model.specs.States.{processes_of};
+ghost use Rattle.fcp_model.specs.Translation.{term_of};
 ghost use Rattle.fcp_model.specs.ProcedureNames.{procedure_names};
 ghost use Rattle.plain_engine.specs.CalledItems.{are_called, is_called};
 ghost use Rattle.plain_engine.specs.Words.{variable_of, term_of_word};
 ghost use Rattle.plain_engine.specs.Plain.{IsFlat, AreFlat, IsPlainCall, ArePlainItems};
-ghost use Rattle.plain_engine.specs.Processes.{process_of, child_of};
+ghost use Rattle.plain_engine.specs.Processes.{process_of, child_in, children_in};
 
 use crate::{Process, Variable, Word};
 use fcp_model::{Call, Item, Loaded, NoMemory, Place, Proc, Term};
@@ -66,7 +64,7 @@ fn child(
 ) -> Result<Process, NoMemory>
     requires plain { IsPlainCall vars item.now.call }
     requires called { is_called (procedure_names loaded.now.clauses) item.now.call ≡ true }
-    ensures { IfOk result (λ p. process_of p ≡ child_of name (rename_goal (placed name.entry) (goal_of (procedure_names loaded.now.clauses) item.now.call))) }
+    ensures { IfOk result (λ p. process_of p ≡ child_in loaded.now name item.now) }
 {
     let Call::User {
         name: procedure,
@@ -97,7 +95,7 @@ pub(crate) fn push_children(
 ) -> Result<(), NoMemory>
     requires plain { ArePlainItems vars items.now }
     requires called { are_called (procedure_names loaded.now.clauses) items.now ≡ true }
-    ensures { OnOk result (map process_of queue.new.items ≡ map process_of queue.old.items ++ processes_of entry 1 (map (rename_goal (placed entry)) (goals_of (procedure_names loaded.now.clauses) items.now))) }
+    ensures { OnOk result (map process_of queue.new.items ≡ map process_of queue.old.items ++ children_in loaded.now entry items.now) }
 {
     for (at, item) in items.iter().enumerate() {
         let name = Proc {

@@ -1,13 +1,11 @@
 ghost use Rattle.std.specs.Prelude.{◌≡◌, ◌+◌, ◌*◌, ◌≤◌, ◌<◌, ◌||◌, suc, nat_le, nat_lt, List, [], ◌∷◌, length, map, IfOk, OnOk, IfSome, IfNone};
 ghost use Rattle.fcp_model.specs.ProcedureNames.{procedure_names};
 ghost use Rattle.fcp_model.specs.Places.{Variable, places_among};
-ghost use Rattle.fcp_model.specs.Decisions.{commits, waits_on, Decides};
+ghost use Rattle.fcp_model.specs.Decisions.{commits, waits_on};
 ghost use Rattle.fcp_model.specs.LawfulStates.{NamesRise};
-ghost use Rattle.fcp_model.specs.Translation.{program_of};
-ghost use Rattle.plain_engine.specs.Words.{binds_of, bound_of};
-ghost use Rattle.plain_engine.specs.Deciding.{Settles};
+ghost use Rattle.plain_engine.specs.Words.{binds_of};
 ghost use Rattle.plain_engine.specs.Processes.{process_of, waiting_process};
-ghost use Rattle.plain_engine.specs.Engines.{IsTask, IsReached, HasRoom, RuleGives, Commits, MayCommit, Hangs, Fails, Passes};
+ghost use Rattle.plain_engine.specs.Engines.{IsTask, IsReached, HasRoom, DecidesFor, SettlesFor, RuleGives, Commits, MayCommit, Hangs, Fails, Passes};
 
 use crate::children::push_children;
 use crate::costs::clause_cells;
@@ -155,7 +153,8 @@ impl Engine {
 
     /// Whether the run ends: the commits or the moves are at their limit, or each process of the queue went to its back.
     fn is_at_end(&self, task: &Task) -> bool
-        ensures { result ≡ (nat_le task.now.limits.commits self.now.commits || nat_le task.now.limits.moves self.now.moves || nat_le (length self.now.queue.items) self.now.passed) }
+        ensures { result ≡ (nat_le task.now.limits.commits self.now.commits || nat_le task.now.limits.moves self.now.moves
+            || nat_le (length self.now.queue.items) self.now.passed) }
     {
         task.limits.commits <= self.commits
             || task.limits.moves <= self.moves
@@ -183,8 +182,8 @@ impl Engine {
         requires reached { IsReached task.now (process_of process ∷ []) self.old }
         requires room { HasRoom task.now self.old }
         requires known { process.procedure < length (procedure_names task.now.loaded.now.clauses) }
-        requires decided { (rs : List Variable) × Decides (program_of task.now.loaded.now) (bound_of self.old.store) (process_of process).goal (commits clause (binds_of bindings.now) rs) }
-        requires settles { Settles self.old.moves (program_of task.now.loaded.now) (bound_of self.old.store) (process_of process).goal clause (binds_of bindings.now) }
+        requires decided { (rs : List Variable) × DecidesFor task.now self.old process (commits clause (binds_of bindings.now) rs) }
+        requires settles { SettlesFor task.now self.old process clause bindings.now }
         ensures { IfOk result (RuleGives task.now self.old.moves (suc (length self.old.queue.items)) self.old.passed self.new) }
     {
         let used = clause_numbered(task.loaded, &process, clause);
@@ -207,7 +206,7 @@ impl Engine {
         requires task { IsTask task.now }
         requires reached { IsReached task.now (process_of process ∷ []) self.old }
         requires room { HasRoom task.now self.old }
-        requires decided { (rs : List Variable) × Decides (program_of task.now.loaded.now) (bound_of self.old.store) (process_of process).goal (waits_on rs) × (places.items ≡ places_among rs) }
+        requires decided { (rs : List Variable) × DecidesFor task.now self.old process (waits_on rs) × (places.items ≡ places_among rs) }
         ensures { IfOk result (RuleGives task.now self.old.moves (suc (length self.old.queue.items)) self.old.passed self.new) }
     {
         match hang_cells(places.as_slice()) {

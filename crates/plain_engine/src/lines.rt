@@ -49,7 +49,8 @@ pub(crate) fn push_value(
     word: Word,
 ) -> Result<(), NoMemory>
     requires { Ranked (bound_of store.now) }
-    ensures { (nodes : ℕ) → OnOk result (Adds text.old.items text.new.items (λ n. cut_text n names.now (bound_of store.now) (suc nodes) (term_of_word word))) }
+    ensures { (nodes : ℕ) → OnOk result (Adds text.old.items text.new.items
+        (λ n. cut_text n names.now (bound_of store.now) (suc nodes) (term_of_word word))) }
 {
     let trail = Trail::new(alloc);
     push_word(text, names, deref(store, &trail, word))
@@ -66,7 +67,8 @@ pub(crate) fn push_bindings(
     bindings: &[Binding],
 ) -> Result<(), NoMemory>
     requires { Ranked (bound_of store.now) }
-    ensures { OnOk result (Adds text.old.items text.new.items (λ n. bound_places_text n names.now (bound_of store.now) entry (binds_of bindings.now))) }
+    ensures { OnOk result (Adds text.old.items text.new.items
+        (λ n. bound_places_text n names.now (bound_of store.now) entry (binds_of bindings.now))) }
 {
     for binding in bindings {
         push_binding(alloc, text, names, store, entry, *binding)?;
@@ -84,7 +86,8 @@ fn push_binding(
     binding: Binding,
 ) -> Result<(), NoMemory>
     requires { Ranked (bound_of store.now) }
-    ensures { OnOk result (Adds text.old.items text.new.items (λ n. bound_places_text n names.now (bound_of store.now) entry (binds_of (binding ∷ [])))) }
+    ensures { OnOk result (Adds text.old.items text.new.items
+        (λ n. bound_places_text n names.now (bound_of store.now) entry (binds_of (binding ∷ [])))) }
 {
     match binding.variable {
         Variable::Own(_) => Ok(()),
@@ -110,7 +113,8 @@ pub(crate) fn push_commit(
     woken: &[Proc],
 ) -> Result<(), NoMemory>
     requires { Ranked (bound_of store.now) }
-    ensures { OnOk result (AddsCommit text.old.items text.new.items names.now (bound_of store.now) entry process clause (binds_of bindings.now) woken.now) }
+    ensures { OnOk result (AddsCommit text.old.items text.new.items names.now (bound_of store.now)
+        entry process clause (binds_of bindings.now) woken.now) }
 {
     push_decimal(text, entry)?;
     push_bytes(text, b" commit ")?;

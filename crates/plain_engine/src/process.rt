@@ -35,7 +35,8 @@ fn is_older(first: Proc, second: Proc) -> bool
 fn position_of(waiting: &[Waiting], name: Proc) -> usize
     requires { NamesRise (map waiting_process waiting.now) }
     ensures within { result ≤ length waiting.now }
-    ensures position { (p : run.Process) → p.name ≡ name → with_process p (map waiting_process waiting.now) ≡ map waiting_process (take result waiting.now) ++ p ∷ map waiting_process (drop result waiting.now) }
+    ensures position { (p : run.Process) → p.name ≡ name → with_process p (map waiting_process waiting.now)
+        ≡ map waiting_process (take result waiting.now) ++ p ∷ map waiting_process (drop result waiting.now) }
 {
     waiting.partition_point(
         |other: &Waiting| -> bool
@@ -47,7 +48,8 @@ fn position_of(waiting: &[Waiting], name: Proc) -> usize
 /// Puts a process among waiting ones in order of name.
 pub(crate) fn insert_waiting(waiting: &mut Vec<Waiting>, process: Waiting) -> Result<(), NoMemory>
     requires { NamesRise (map waiting_process waiting.old.items) }
-    ensures { OnOk result (map waiting_process waiting.new.items ≡ with_process (waiting_process process) (map waiting_process waiting.old.items)) }
+    ensures { OnOk result (map waiting_process waiting.new.items
+        ≡ with_process (waiting_process process) (map waiting_process waiting.old.items)) }
 {
     let at = position_of(waiting.as_slice(), process.process.name);
     match waiting.insert(at, process) {

@@ -6,11 +6,9 @@ ghost use Rattle.fcp_model.specs.ReportText.{goal_variables, variable_line, vari
 ghost use Rattle.fcp_model.specs.Spelling.{name_at};
 ghost use Rattle.fcp_model.specs.Places.{placed};
 ghost use Rattle.fcp_model.specs.Terms.{var};
-ghost use Rattle.fcp_model.specs.Reports.{IsOneWorkerReport};
-ghost use Rattle.fcp_model.specs.Translation.{program_of, start_of};
 ghost use Rattle.plain_engine.specs.Additions.{Adds};
 ghost use Rattle.plain_engine.specs.EndTexts.{AddsEnd};
-ghost use Rattle.plain_engine.specs.Engines.{IsTask, ScheduledAt, HasEnded, HasFailed};
+ghost use Rattle.plain_engine.specs.Engines.{IsTask, IsReportOf, ScheduledAt, HasEnded, HasFailed};
 ghost use Rattle.plain_engine.specs.Words.{bound_of};
 
 use crate::engine::{Engine, Task};
@@ -34,8 +32,7 @@ pub struct Report {
 pub(crate) fn report_end(alloc: Global, task: &Task, engine: Engine) -> Result<Report, NoMemory>
     requires task { IsTask task.now }
     requires ended { HasEnded task.now engine }
-    ensures { IfOk result (λ r. IsOneWorkerReport (program_of task.now.loaded.now) (start_of task.now.loaded.now task.now.goal.now) task.now.limits [] task.now.names.now
-        (goal_variables task.now.goal.now.names) r.outcome r.text.items) }
+    ensures { IfOk result (λ r. IsReportOf task.now r.outcome r.text.items) }
 {
     let outcome = outcome_of(task.limits, &engine);
     close(alloc, task, engine, outcome)
@@ -45,8 +42,7 @@ pub(crate) fn report_end(alloc: Global, task: &Task, engine: Engine) -> Result<R
 pub(crate) fn report_fail(alloc: Global, task: &Task, engine: Engine) -> Result<Report, NoMemory>
     requires task { IsTask task.now }
     requires failed { HasFailed task.now engine }
-    ensures { IfOk result (λ r. IsOneWorkerReport (program_of task.now.loaded.now) (start_of task.now.loaded.now task.now.goal.now) task.now.limits [] task.now.names.now
-        (goal_variables task.now.goal.now.names) r.outcome r.text.items) }
+    ensures { IfOk result (λ r. IsReportOf task.now r.outcome r.text.items) }
 {
     close(alloc, task, engine, Outcome::Failed)
 }
@@ -73,7 +69,8 @@ fn close(alloc: Global, task: &Task, engine: Engine, outcome: Outcome) -> Result
     requires ranked { Ranked (bound_of engine.store) }
     requires few { length task.now.goal.now.names ≤ 250 }
     ensures outcome { IfOk result (λ r. r.outcome ≡ outcome) }
-    ensures text { IfOk result (λ r. AddsEnd engine.text.items r.text.items task.now.names.now task.now.goal.now.names (bound_of engine.store) engine.moves outcome) }
+    ensures text { IfOk result (λ r. AddsEnd engine.text.items r.text.items task.now.names.now task.now.goal.now.names
+        (bound_of engine.store) engine.moves outcome) }
 {
     let Engine {
         store,
@@ -103,7 +100,8 @@ fn push_variable_lines(
 ) -> Result<(), NoMemory>
     requires ranked { Ranked (bound_of store.now) }
     requires few { length variables.now ≤ 250 }
-    ensures { OnOk result (Adds text.old.items text.new.items (λ n. variable_lines n names.now (bound_of store.now) (goal_variables variables.now))) }
+    ensures { OnOk result (Adds text.old.items text.new.items
+        (λ n. variable_lines n names.now (bound_of store.now) (goal_variables variables.now))) }
 {
     for (at, name) in variables.iter().enumerate() {
         push_variable_line(alloc, text, names, store, at as u32 + 1, *name)?;
@@ -121,7 +119,8 @@ fn push_variable_line(
     name: Option<Sym>,
 ) -> Result<(), NoMemory>
     requires { Ranked (bound_of store.now) }
-    ensures { OnOk result (Adds text.old.items text.new.items (λ n. variable_line n names.now (bound_of store.now) name (var (placed 0 number)))) }
+    ensures { OnOk result (Adds text.old.items text.new.items
+        (λ n. variable_line n names.now (bound_of store.now) name (var (placed 0 number)))) }
 {
     let Some(name) = name else {
         return Ok(());

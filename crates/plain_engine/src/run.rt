@@ -25,8 +25,8 @@ pub fn run_goal(
     requires plain_goal { IsPlainGoal goal.now }
     requires called { bodies_called loaded.now ≡ true }
     requires goal_called { goal_called loaded.now goal.now ≡ true }
-    ensures { IfOk result (λ r. IsOneWorkerReport (program_of loaded.now) (start_of loaded.now goal.now) limits [] names.now (goal_variables goal.now.names)
-        r.outcome r.text.items) }
+    ensures { IfOk result (λ r. IsOneWorkerReport (program_of loaded.now) (start_of loaded.now goal.now) limits []
+        names.now (goal_variables goal.now.names) r.outcome r.text.items) }
 {
     let task = Task {
         names,

@@ -33,7 +33,8 @@ fn stored(store: &Store, variable: Variable) -> Option<Word>
 fn next_of(store: &Store, trail: &Trail, variable: Variable) -> Option<Word>
     requires { Ranked (bound_of store.now ++ bound_by trail.now) }
     ensures { let s = bound_of store.now ++ bound_by trail.now in
-        MatchOption result (find s (variable_of variable) ≡ None) (λ w. LeadsTo s (Word.Var variable) w × LeadsTo s (Word.ReadOnly variable) (marked w)) }
+        MatchOption result (find s (variable_of variable) ≡ None)
+        (λ w. LeadsTo s (Word.Var variable) w × LeadsTo s (Word.ReadOnly variable) (marked w)) }
 {
     match shortcut(store, variable) {
         Some(next) => Some(next),

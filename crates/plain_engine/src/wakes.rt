@@ -1,10 +1,10 @@
-ghost use Rattle.std.specs.Prelude.{◌≡◌, ◌++◌, map, filter, not, is_some, IfOk, OnOk};
+ghost use Rattle.std.specs.Prelude.{◌≡◌, ◌++◌, map, is_some, IfOk, OnOk};
 ghost use Rattle.std.specs.List.{list_any};
 ghost use Rattle.fcp_model.specs.Places.{made};
 ghost use Rattle.fcp_model.specs.Terms.{find};
-ghost use Rattle.fcp_model.specs.Events.{binds_one, is_woken, made_ready};
+ghost use Rattle.fcp_model.specs.Events.{binds_one, made_ready};
 ghost use Rattle.plain_engine.specs.Words.{variable_of, is_place, binds_of};
-ghost use Rattle.plain_engine.specs.Processes.{process_of, waiting_process};
+ghost use Rattle.plain_engine.specs.Processes.{process_of, waiting_process, woken_among, asleep_among};
 
 use crate::{Binding, Process, Variable, Waiting};
 use fcp_model::{NoMemory, Place, Proc};
@@ -51,9 +51,10 @@ pub(crate) fn wake(
     waiting: &mut Vec<Waiting>,
     queue: &mut VecDeque<Process>,
 ) -> Result<Vec<Proc>, NoMemory>
-    ensures asleep { OnOk result (map waiting_process waiting.new.items ≡ filter (λ p. not (is_woken (binds_of bindings.now) p.status)) (map waiting_process waiting.old.items)) }
-    ensures named { IfOk result (λ names. names.items ≡ map (λ p. p.name) (filter (λ p. is_woken (binds_of bindings.now) p.status) (map waiting_process waiting.old.items))) }
-    ensures ready { OnOk result (map process_of queue.new.items ≡ map process_of queue.old.items ++ map made_ready (filter (λ p. is_woken (binds_of bindings.now) p.status) (map waiting_process waiting.old.items))) }
+    ensures asleep { OnOk result (map waiting_process waiting.new.items ≡ asleep_among bindings.now waiting.old.items) }
+    ensures named { IfOk result (λ names. names.items ≡ map (λ p. p.name) (woken_among bindings.now waiting.old.items)) }
+    ensures ready { OnOk result (map process_of queue.new.items
+        ≡ map process_of queue.old.items ++ map made_ready (woken_among bindings.now waiting.old.items)) }
 {
     let mut names = Vec::new(alloc);
     if !bind_a_place(bindings) {

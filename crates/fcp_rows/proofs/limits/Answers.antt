@@ -61,9 +61,13 @@ abbrev last : Schedule
 last = stand_of (begin from []) came
 
 log_lines : AreLines 30 names evs (take 10 (drop 1 hundred_cells_report))
-log_lines = (simp digits refl, (simp digits refl, (simp digits refl, (simp digits refl, (simp digits refl, (simp digits refl, (simp digits refl, (simp digits refl, (simp digits refl, (simp digits refl, tt))))))))))
+log_lines =
+    let last_five : AreLines 30 names (drop 5 evs) (take 5 (drop 6 hundred_cells_report)) =
+    (simp digits refl, (simp digits refl, (simp digits refl, (simp digits refl, (simp digits refl, tt))))) in
+    (simp digits refl, (simp digits refl, (simp digits refl, (simp digits refl, (simp digits refl, last_five)))))
 
-vars : variable_lines 30 names (last_state from evs).bound (goal_variables hundred_cells.variables) ≡ Some (lines (drop 13 hundred_cells_report))
+vars : variable_lines 30 names (last_state from evs).bound (goal_variables hundred_cells.variables)
+    ≡ Some (lines (drop 13 hundred_cells_report))
 vars = simp digits refl
 
 text : report_text 30 names (goal_variables hundred_cells.variables) m from evs outcome.Full [] 0 ≡ Some (lines hundred_cells_report)
@@ -73,7 +77,8 @@ text =
       vars_are = vars;
       snapshots_are = refl;
     })
-    ∙ ap (λ ds. Some (codes "logix log 1\n" ++ lines (take 10 (drop 1 hundred_cells_report)) ++ codes "end " ++ ds ++ codes "\n" ++ ((codes "outcome " ++ outcome_word outcome.Full ++ codes "\n") ++ (lines (drop 13 hundred_cells_report) ++ [])))) decimal10
+    ∙ ap (λ ds. Some (codes "logix log 1\n" ++ lines (take 10 (drop 1 hundred_cells_report)) ++ codes "end " ++ ds ++ codes "\n"
+    ++ ((codes "outcome " ++ outcome_word outcome.Full ++ codes "\n") ++ (lines (drop 13 hundred_cells_report) ++ [])))) decimal10
 
 pub returns-clause-cells : goal.returns-clause-cells
 returns-clause-cells c = record {

@@ -11,7 +11,8 @@ returns-clause-goes c =
     IfOk-weaker c.treat.result
     (λ d. Treats c.args.trail.now c.treat.new.trail c.deref-left.result c.deref-right.result d)
     (λ d. Goes s c.args.trail.now c.treat.new.trail (term_of_word c.args.left, term_of_word c.args.right) d)
-    (λ d t. goes_by_value s c.args.trail.now c.treat.new.trail c.args.left c.args.right c.deref-left.result c.deref-right.result d c.deref-left.ensures.value c.deref-right.ensures.value t)
+    (λ d t. goes_by_value s c.args.trail.now c.treat.new.trail c.args.left c.args.right c.deref-left.result c.deref-right.result d
+    c.deref-left.ensures.value c.deref-right.ensures.value t)
     c.treat.ensures
 
 pub returns-clause-kept : goal.returns-clause-kept
@@ -20,5 +21,6 @@ returns-clause-kept c = λ n met k a b.
     IfOk-weaker c.treat.result
     (λ d. Treats c.args.trail.now c.treat.new.trail c.deref-left.result c.deref-right.result d)
     (λ d. IsTrial n met s (bound_by c.treat.new.trail))
-    (λ d t. kept_by_value n met s c.args.trail.now c.treat.new.trail c.args.left c.args.right c.deref-left.result c.deref-right.result d k a b c.deref-left.ensures.value c.deref-right.ensures.value c.deref-left.ensures.at_end c.deref-right.ensures.at_end t)
+    (λ d t. kept_by_value n met s c.args.trail.now c.treat.new.trail c.args.left c.args.right c.deref-left.result c.deref-right.result d k
+    a b c.deref-left.ensures.value c.deref-right.ensures.value c.deref-left.ensures.at_end c.deref-right.ensures.at_end t)
     c.treat.ensures

@@ -5,6 +5,7 @@ use Rattle.plain_engine.proofs.process.position_of.Goals as goal
 
 pub returns-clause-position : goal.returns-clause-position
 returns-clause-position c =
-    let point = IsPartitionPoint-from_clause (goes_behind c.args.name) c.args.waiting.now c.partition_point.result c.partition_point.ensures.partitioned
+    let point = IsPartitionPoint-from_clause
+    (goes_behind c.args.name) c.args.waiting.now c.partition_point.result c.partition_point.ensures.partitioned
     (waiting_parted c.args.name c.args.waiting.now c.requires) (λ a r f k. search (rules, of_calls)) in
     λ p same. placed_at c.args.name p c.args.waiting.now c.partition_point.result same c.partition_point.ensures.bound point.0 point.1

@@ -4,4 +4,5 @@ use Rattle.plain_engine.proofs.Follow.{both_on}
 use Rattle.plain_engine.proofs.value.next_of.Goals as goal
 
 pub returns-in-None : goal.returns-in-None
-returns-in-None c = both_on (bound_of c.args.store.now ++ bound_by c.args.trail.now) c.args.variable c.lookup.result c.requires c.lookup.ensures
+returns-in-None c =
+    both_on (bound_of c.args.store.now ++ bound_by c.args.trail.now) c.args.variable c.lookup.result c.requires c.lookup.ensures

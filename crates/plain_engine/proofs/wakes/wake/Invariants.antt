@@ -7,7 +7,9 @@ use Rattle.plain_engine.proofs.wakes.wake.Given as goal
 
 abbrev pub invariant-loop-sleeper : goal.invariant-loop-sleeper
 invariant-loop-sleeper l = record {
-  asleep : map waiting_process l.waiting.items ≡ filter (λ p. not (is_woken (binds_of l.bindings) p.status)) (map waiting_process l.yielded);
+  asleep : map waiting_process l.waiting.items
+      ≡ filter (λ p. not (is_woken (binds_of l.bindings) p.status)) (map waiting_process l.yielded);
   named : l.names.items ≡ map (λ p. p.name) (filter (λ p. is_woken (binds_of l.bindings) p.status) (map waiting_process l.yielded));
-  ready : map process_of l.queue.items ≡ map process_of l.fn.queue.items ++ map made_ready (filter (λ p. is_woken (binds_of l.bindings) p.status) (map waiting_process l.yielded));
+  ready : map process_of l.queue.items ≡ map process_of l.fn.queue.items
+      ++ map made_ready (filter (λ p. is_woken (binds_of l.bindings) p.status) (map waiting_process l.yielded));
 }

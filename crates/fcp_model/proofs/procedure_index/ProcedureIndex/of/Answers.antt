@@ -1,4 +1,4 @@
-use Rattle.std.proofs.Common.{All, ◌<◌, ◌^◌, ◌∙◌, ap, sym, subst, arith, length, map, take}
+use Rattle.std.proofs.Common.{All, ◌<◌, ◌^◌, ◌∙◌, ap, sym, subst, arith, length, take}
 use Rattle.std.proofs.lemmas.List.{length-map}
 use Rattle.std.proofs.lemmas.List.Elements.{All-take}
 use Rattle.indexmap.specs.IndexSet.{insert_key}
@@ -17,7 +17,13 @@ loop-at-preserved c =
           kept.names
           ∙ ap (λ hs. insert_key same_procedure hs (procedure_name next.result)) c.loop-at.invariant.names
           ∙ sym (procedure_names_more cs c.loop-at.at next.result c.loop-at-test.true next.is);
-      few = omega (arith, ap length kept.names, length-insert_key c.loop-at.names.keys (procedure_name next.result), c.loop-at.invariant.few);
+      few = omega (
+        arith,
+        ap length kept.names,
+        length-insert_key c.loop-at.names.keys
+            (procedure_name next.result),
+        c.loop-at.invariant.few,
+      );
       positions =
           kept.positions
           ∙ (λ i. with_position (c.loop-at.invariant.names i) (procedure_name next.result) c.loop-at.at (c.loop-at.invariant.positions i))
@@ -31,7 +37,8 @@ invariant_of-result c =
     let P : ProcedureName → Type 0 = λ h. h.arity < 2 ^ 32 in
     record {
       few = omega (arith, c.loop-at.invariant.few, c.loop-at.auto.at-end, c.requires.fits);
-      each = ap length c.loop-at.invariant.positions ∙ length-map names (λ h. positions_from 0 h seen) ∙ sym (ap length c.loop-at.invariant.names);
+      each = ap length c.loop-at.invariant.positions ∙ length-map names (λ h. positions_from 0 h seen)
+          ∙ sym (ap length c.loop-at.invariant.names);
       short = subst (All P) (sym c.loop-at.invariant.names)
           (procedure_names_pass P seen (All-take (λ d. length d.args < 2 ^ 32) c.loop-at.at c.args.clauses.now c.requires.arity));
     }

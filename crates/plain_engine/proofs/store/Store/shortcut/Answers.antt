@@ -8,4 +8,5 @@ pub returns : goal.returns
 returns c =
     let held = kept (bound_of c.self.inside.bound.entries) c.self.inside.shortcuts.entries c.args.place c.self.invariant in
     subst (λ es. IfSome c.copied.result (IsShortcut (bound_of es) c.args.place)) c.self.view_is
-    (subst (λ o. IfSome o (IsShortcut (bound_of c.self.inside.bound.entries) c.args.place)) (sym (c.copied.ensures ∙ c.get.ensures.value)) held)
+    (subst (λ o. IfSome o (IsShortcut (bound_of c.self.inside.bound.entries) c.args.place))
+    (sym (c.copied.ensures ∙ c.get.ensures.value)) held)
