@@ -7,6 +7,7 @@ import subprocess
 ROOT = os.path.dirname(os.path.dirname(os.path.abspath(__file__)))
 BUILDER = os.path.join(ROOT, "logix")
 PROGRAM = os.path.join(ROOT, "crates", "logix", "out", "logix")
+SMALL = os.path.join(ROOT, "crates", "logix", "data", "first.fcp")
 SECONDS = 120
 DIFF_LINES = 20
 # what ./logix exits with where the tool is missing, and where the build fails
@@ -15,13 +16,8 @@ NO_BUILD = 125
 
 
 def built():
-    """Has ./logix build the program. Gives None, or why there is no program to run."""
-    # With no words the program prints a line on its usage, and no more.
-    quiet = {"stdin": subprocess.DEVNULL, "stdout": subprocess.DEVNULL}
-    done = subprocess.run([BUILDER], stderr=subprocess.PIPE, **quiet)
-    status = done.returncode
-    if status in (NO_TOOL, NO_BUILD):
-        print(done.stderr.decode("utf-8", "replace"), end="")
+    """Has ./logix build the program, which then shows a small module. Gives None, or why there is no program to run."""
+    status = subprocess.run([BUILDER, "show", SMALL], stdin=subprocess.DEVNULL, stdout=subprocess.DEVNULL).returncode
     if status == NO_TOOL:
         return "the tool that builds the program is missing"
     if status == NO_BUILD:
