@@ -1,0 +1,42 @@
+//! Code for a clause.
+ghost use Rattle.std.specs.Prelude.{length, OnOk};
+ghost use Rattle.fcp_model.specs.ProcedureNames.{procedure_names};
+ghost use Rattle.fcp_model.specs.Translation.{clause_of};
+ghost use Rattle.clause_compiler.specs.ClauseCode.{clause_code};
+ghost use Rattle.clause_compiler.specs.Reading.{Emits};
+
+use crate::Instr;
+use crate::arguments::head;
+use crate::bodies::body;
+use crate::emitter::Emitter;
+use crate::guards::guard;
+use fcp_model::{Clause, Loaded, NoMemory};
+use std::alloc::Global;
+
+/// The code of a procedure's clause of a number: its head, its guard and its body, with the goal's arguments in the first
+/// slots. A try that does not succeed goes on behind it.
+pub fn clause_code(
+    alloc: Global,
+    code: &mut Emitter,
+    loaded: &Loaded,
+    clause: &Clause,
+    number: u32,
+) -> Result<(), NoMemory>
+    ensures { OnOk result (Emits code.old code.new (clause_code (length code.old.instrs.items) number (clause_of (procedure_names loaded.now.clauses) clause.now))) }
+{
+    let Ok(base) = u32::try_from(clause.args.len()) else {
+        return Err(NoMemory);
+    };
+    let start = code.instrs.len();
+    code.emit(Instr::Try {
+        clause: number,
+        next: 0,
+    })?;
+    head(alloc, code, clause.args.as_slice(), base)?;
+    guard(alloc, code, clause.guard.as_slice(), base)?;
+    body(alloc, code, loaded, clause.body.as_slice(), base)?;
+    code.emit(Instr::Commit)?;
+    let next = code.position()?;
+    code.set_next(start, number, next);
+    Ok(())
+}
