@@ -1,14 +1,16 @@
--- Believed: the grammar of expressions. A number `n` beside an expression is that of the item's operators before it, counted up to 257.
+-- Believed: the grammar of expressions. A number `n` beside an expression is that of the item's operators before it, counted up
+-- to the first that is too many.
 use Rattle.std.specs.Prelude.{ℕ, List, ◌∷◌, Bool, false, nat_le, nat_lt, ◌+◌, if◌then◌else◌}
 use Rattle.fcp_model.specs.declared.term.Expr.{Expr}
 use Rattle.fcp_model.specs.declared.term.Expr.TheVariants as E
 use Rattle.fcp_model.specs.declared.term.ArithOp.{ArithOp}
 use Rattle.fcp_model.specs.declared.term.ArithOp.TheVariants.{Add, Sub, Mul, Div, Mod}
 use Rattle.fcp_model.specs.declared.names.Sym.{Sym}
-use Rattle.fcp_grammar.specs.declared.words.StringForm.TheVariants as F
-use Rattle.fcp_grammar.specs.declared.words.Word.{Word}
-use Rattle.fcp_grammar.specs.declared.words.Word.TheVariants as W
+use Rattle.fcp_grammar.specs.declared.terminals.StringForm.TheVariants as F
+use Rattle.fcp_grammar.specs.declared.terminals.Terminal.{Terminal}
+use Rattle.fcp_grammar.specs.declared.terminals.Terminal.TheVariants as terminal
 use Rattle.fcp_grammar.specs.Grammar.{Marked, Tree, first_of, value, plain, spell}
+use Rattle.fcp_grammar.specs.Limits.{most_operators}
 
 -- `+` or `-`
 pub data SumSign : Type 0 where
@@ -37,21 +39,21 @@ mutual
 
 -- ---- signs
 
--- the word of a sign between products
-abbrev pub sum_word : SumSign → Word
-sum_word (add at) = W.Operator Add at
-sum_word (sub at) = W.Operator Sub at
+-- the terminal of a sign between products
+abbrev pub sum_terminal : SumSign → Terminal
+sum_terminal (add at) = terminal.Operator Add at
+sum_terminal (sub at) = terminal.Operator Sub at
 
 -- what it stands for
 abbrev pub sum_op : SumSign → ArithOp
 sum_op (add at) = Add
 sum_op (sub at) = Sub
 
--- the word of a sign between factors
-abbrev pub product_word : ProductSign → Word
-product_word (mul at) = W.Operator Mul at
-product_word (div at) = W.Operator Div at
-product_word (rem s at) = W.Str s F.Mod at
+-- the terminal of a sign between factors
+abbrev pub product_terminal : ProductSign → Terminal
+product_terminal (mul at) = terminal.Operator Mul at
+product_terminal (div at) = terminal.Operator Div at
+product_terminal (rem s at) = terminal.Str s F.Mod at
 
 -- what it stands for
 abbrev pub product_op : ProductSign → ArithOp
@@ -61,7 +63,7 @@ product_op (rem s at) = Mod
 
 -- ---- values
 
--- A leaf has the place of its first word. Both kinds of signs group to the left.
+-- A leaf has the place of its first terminal. Both kinds of signs group to the left.
 abbrev mutual
   pub factor_value : Factor → Expr
   factor_value (leaf t) = E.Leaf (value t) (first_of t)
@@ -79,11 +81,11 @@ abbrev mutual
 
 -- one operator more
 abbrev pub more : ℕ → ℕ
-more n = if nat_lt n 257 then n + 1 else n
+more n = if nat_lt n (most_operators + 1) then n + 1 else n
 
--- behind 256 operators each further one is too many
+-- behind so many operators each further one is too many
 abbrev pub over_operators : ℕ → Bool
-over_operators n = nat_le 256 n
+over_operators n = nat_le most_operators n
 
 -- the number of operators up to the end
 abbrev mutual
@@ -99,18 +101,20 @@ abbrev mutual
   sum_ops n (only p) = product_ops n p
   sum_ops n (plus e sign p) = product_ops (more (sum_ops n e)) p
 
--- ---- words
+-- ---- terminals
 
--- The words of the expression, and then the rest. `m` says that what begins here is one too many.
+-- The terminals of the expression, and then the rest. `m` says that what begins here is one too many.
 abbrev mutual
   pub spell_factor : Bool → ℕ → Factor → List Marked → List Marked
   spell_factor m n (leaf t) rest = spell m t rest
-  spell_factor m n (group o e) rest = (W.RoundOpen o, m) ∷ spell_sum false n e (plain W.RoundClose ∷ rest)
+  spell_factor m n (group o e) rest = (terminal.RoundOpen o, m) ∷ spell_sum false n e (plain terminal.RoundClose ∷ rest)
 
   pub spell_product : Bool → ℕ → Product → List Marked → List Marked
   spell_product m n (one f) rest = spell_factor m n f rest
-  spell_product m n (times p sign f) rest = spell_product m n p ((product_word sign, over_operators (product_ops n p)) ∷ spell_factor false (more (product_ops n p)) f rest)
+  spell_product m n (times p sign f) rest =
+      spell_product m n p ((product_terminal sign, over_operators (product_ops n p)) ∷ spell_factor false (more (product_ops n p)) f rest)
 
   pub spell_sum : Bool → ℕ → Sum → List Marked → List Marked
   spell_sum m n (only p) rest = spell_product m n p rest
-  spell_sum m n (plus e sign p) rest = spell_sum m n e ((sum_word sign, over_operators (sum_ops n e)) ∷ spell_product false (more (sum_ops n e)) p rest)
+  spell_sum m n (plus e sign p) rest =
+      spell_sum m n e ((sum_terminal sign, over_operators (sum_ops n e)) ∷ spell_product false (more (sum_ops n e)) p rest)

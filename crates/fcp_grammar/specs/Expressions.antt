@@ -4,8 +4,8 @@ use Rattle.fcp_model.specs.declared.term.Expr.{Expr}
 use Rattle.fcp_model.specs.declared.term.Expr.TheVariants as E
 use Rattle.fcp_model.specs.declared.term.ArithOp.{ArithOp}
 use Rattle.fcp_model.specs.declared.term.ArithOp.TheVariants.{Add, Sub}
-use Rattle.fcp_grammar.specs.declared.expressions.Left.{Left}
-use Rattle.fcp_grammar.specs.declared.expressions.Left.TheVariants.{Nothing, Operator}
+use Rattle.fcp_grammar.specs.declared.expressions.LeftOperand.{LeftOperand}
+use Rattle.fcp_grammar.specs.declared.expressions.LeftOperand.TheVariants.{Nothing, Operator}
 use Rattle.fcp_grammar.specs.declared.expressions.Level.{Level}
 
 -- no operator waits
@@ -13,7 +13,7 @@ abbrev pub nothing : Level
 nothing = record { sum = Nothing; product = Nothing }
 
 -- whether no operator waits
-abbrev pub both_nothing : Left → Left → Bool
+abbrev pub both_nothing : LeftOperand → LeftOperand → Bool
 both_nothing Nothing Nothing = true
 both_nothing _ _ = false
 
@@ -26,7 +26,7 @@ abbrev pub operation : ArithOp → Expr → Expr → Expr
 operation op a b = E.Op op a b
 
 -- what waits, with its right operand
-abbrev pub join : Left → Expr → Expr
+abbrev pub join : LeftOperand → Expr → Expr
 join Nothing e = e
 join (Operator l op) e = operation op l e
 

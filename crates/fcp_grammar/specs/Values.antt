@@ -3,6 +3,7 @@ use Rattle.std.specs.Prelude.{List, [], ◌∷◌, Option, Some, None, Bool, tru
 use Rattle.fcp_model.specs.declared.term.Term.{Term}
 use Rattle.fcp_model.specs.declared.term.Term.TheVariants.{Str, Cons, Tuple}
 use Rattle.fcp_model.specs.declared.names.Sym.{Sym}
+use Rattle.fcp_grammar.specs.Limits.{most_arguments}
 
 -- nested pairs, one for each element, and then the rest
 abbrev pub listed : List Term → Term → Term
@@ -13,9 +14,9 @@ listed (t ∷ ts) rest = Cons t (listed ts rest)
 abbrev pub tuple_of : Sym → List Term → Term
 tuple_of s ts = Tuple (Str s ∷ ts)
 
--- behind 64 parts each further one is too many
+-- behind so many arguments or parts each further one is too many
 abbrev pub over : List Term → Bool
-over done = nat_le 64 (length done)
+over done = nat_le most_arguments (length done)
 
 -- ---- the following two serve the machine's stack alone
 

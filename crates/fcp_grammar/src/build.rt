@@ -46,14 +46,3 @@ pub fn tuple(name: Sym, args: Seq<Term>) -> Result<Term, NoMemory>
         Err(_) => Err(NoMemory),
     }
 }
-
-/// The terms, with one more at the end.
-pub fn with(done: Seq<Term>, term: Term) -> Result<Seq<Term>, NoMemory>
-    ensures { IfOk result (λ v. v ≡ done ++ term ∷ []) }
-{
-    let mut done = done;
-    match done.push(term) {
-        Ok(()) => Ok(done),
-        Err(_) => Err(NoMemory),
-    }
-}

@@ -8,7 +8,7 @@ use std::alloc::Global;
 
 /// An operator with its left operand, or nothing.
 #[derive(Drop)]
-pub enum Left {
+pub enum LeftOperand {
     Nothing,
     /// The left operand and its operator.
     Operator(Expr, ArithOp),
@@ -18,9 +18,9 @@ pub enum Left {
 #[derive(Drop)]
 pub struct Level {
     /// The `+` or `-` before the product that is being read.
-    pub sum: Left,
+    pub sum: LeftOperand,
     /// The `*`, `/` or `mod` before the operand that is being read.
-    pub product: Left,
+    pub product: LeftOperand,
 }
 
 /// No operator waits.
@@ -28,8 +28,8 @@ pub fn nothing() -> Level
     ensures { result ≡ spec.nothing }
 {
     Level {
-        sum: Left::Nothing,
-        product: Left::Nothing,
+        sum: LeftOperand::Nothing,
+        product: LeftOperand::Nothing,
     }
 }
 
@@ -38,10 +38,10 @@ pub fn is_nothing(level: &Level) -> bool
     ensures { result ≡ spec.is_nothing level.now }
 {
     match level.sum {
-        Left::Operator(_, _) => false,
-        Left::Nothing => match level.product {
-            Left::Operator(_, _) => false,
-            Left::Nothing => true,
+        LeftOperand::Operator(_, _) => false,
+        LeftOperand::Nothing => match level.product {
+            LeftOperand::Operator(_, _) => false,
+            LeftOperand::Nothing => true,
         },
     }
 }
@@ -58,12 +58,12 @@ fn operation(alloc: Global, operator: ArithOp, left: Expr, right: Expr) -> Resul
     Ok(Expr::Op(operator, left, right))
 }
 
-fn join(alloc: Global, left: Left, right: Expr) -> Result<Expr, NoMemory>
+fn join(alloc: Global, left: LeftOperand, right: Expr) -> Result<Expr, NoMemory>
     ensures { IfOk result (λ e. e ≡ spec.join left right) }
 {
     match left {
-        Left::Nothing => Ok(right),
-        Left::Operator(e, operator) => operation(alloc, operator, e, right),
+        LeftOperand::Nothing => Ok(right),
+        LeftOperand::Operator(e, operator) => operation(alloc, operator, e, right),
     }
 }
 
@@ -86,14 +86,14 @@ pub fn before(
 {
     match operator {
         ArithOp::Add | ArithOp::Sub => Ok(Level {
-            sum: Left::Operator(whole(alloc, level, operand)?, operator),
-            product: Left::Nothing,
+            sum: LeftOperand::Operator(whole(alloc, level, operand)?, operator),
+            product: LeftOperand::Nothing,
         }),
         ArithOp::Mul | ArithOp::Div | ArithOp::Mod => {
             let product = join(alloc, level.product, operand)?;
             Ok(Level {
                 sum: level.sum,
-                product: Left::Operator(product, operator),
+                product: LeftOperand::Operator(product, operator),
             })
         }
     }

@@ -1,82 +1,15 @@
-//! Reading items, one word after another.
+//! Reading items, one terminal after another.
 ghost use Rattle.std.specs.Prelude.{◌≡◌, IfOk};
 ghost use Rattle.fcp_grammar.specs.Items as spec;
 
-use crate::expressions::{Level, is_nothing, nothing};
+use crate::expressions::{is_nothing, nothing};
 use crate::operands::behind_operand;
+use crate::sides::{Equation, ItemStep, LeftSide, Side, Sums, TermSign};
 use crate::stack::Stack;
+use crate::terminals::{Terminal, ends_item};
 use crate::terms::{Phase, TermAt, Told, is_large, opens_group, place_of, start, step, term_of};
-use crate::words::Word;
-use fcp_model::{Call, CompareOp, Expr, Item, NoMemory, Seq, Term};
+use fcp_model::{Call, Expr, Item, NoMemory, Seq, Term};
 use std::alloc::Global;
-
-/// The sign between two terms.
-#[derive(Clone, Copy, Debug, PartialEq, Eq)]
-pub enum TermSign {
-    /// `=`
-    Equals,
-    /// `==`
-    Same,
-    /// `\==`
-    NotSame,
-}
-
-/// A term and the sign between it and the next.
-#[derive(Drop)]
-pub struct Equation {
-    /// The place of the term, which is the item's.
-    pub at: u32,
-    pub left: Term,
-    pub sign: TermSign,
-}
-
-/// What stands before the expression that is being read.
-#[derive(Drop)]
-pub enum LeftSide {
-    /// No comparison and no `:=`.
-    Nothing,
-    /// An expression with its comparison.
-    Compared(Expr, CompareOp),
-    /// A term with `:=`.
-    Assigned(Term),
-}
-
-/// What waits for an operand in an item.
-#[derive(Drop)]
-pub struct Sums {
-    /// The place of the item.
-    pub at: u32,
-    pub left: LeftSide,
-    /// Around the open parentheses, from the inside.
-    pub groups: Stack<Level>,
-    pub level: Level,
-    /// The operators of the item up to here, counted up to 257.
-    pub operators: u32,
-}
-
-/// How far an item is read.
-#[derive(Drop)]
-pub enum Side {
-    /// Nothing is read of it.
-    Start,
-    /// Behind a sign between two terms.
-    Equal(Equation, TermAt),
-    /// In a term that may be an operand.
-    Sum(Sums, TermAt),
-    /// Behind the `)` of an expression.
-    Closed(Sums, Expr),
-}
-
-/// What a word is to an item.
-#[derive(Drop)]
-pub enum Turn {
-    /// The word goes on. The mark says that it is one too many.
-    Goes(Side, bool),
-    /// The item has ended before the word.
-    Ends(Item),
-    /// No item goes on with the word, and none has ended before it.
-    Refused,
-}
 
 /// Nothing waits.
 fn is_fresh(sums: &Sums) -> bool
@@ -91,39 +24,29 @@ fn is_fresh(sums: &Sums) -> bool
     }
 }
 
-/// A word that ends an item.
-fn is_end(word: Word) -> bool
-    ensures { result ≡ spec.is_end word }
-{
-    match word {
-        Word::Comma | Word::Bar | Word::Dot(_) => true,
-        _ => false,
-    }
-}
-
 /// The call of a procedure.
 #[tactic(auto, unfolding(crate::specs::Items::call_item))]
-fn call_item(alloc: Global, at: u32, phase: Phase) -> Turn
+fn call_item(alloc: Global, at: u32, phase: Phase) -> ItemStep
     ensures { result ≡ spec.call_item at phase }
 {
     match phase {
-        Phase::Named(_, name) => Turn::Ends(Item {
+        Phase::Named(_, name) => ItemStep::Ends(Item {
             at,
             call: Call::User {
                 name,
                 args: Seq::empty(alloc),
             },
         }),
-        Phase::Called(_, name, args) => Turn::Ends(Item {
+        Phase::Called(_, name, args) => ItemStep::Ends(Item {
             at,
             call: Call::User { name, args },
         }),
-        _ => Turn::Refused,
+        _ => ItemStep::Refused,
     }
 }
 
 /// A sign between two terms behind the first.
-fn equate(alloc: Global, at: u32, phase: Phase, sign: TermSign) -> Result<Turn, NoMemory>
+fn equate(alloc: Global, at: u32, phase: Phase, sign: TermSign) -> Result<ItemStep, NoMemory>
     ensures { IfOk result (λ r. r ≡ spec.equate at phase sign) }
 {
     let equation = Equation {
@@ -131,11 +54,11 @@ fn equate(alloc: Global, at: u32, phase: Phase, sign: TermSign) -> Result<Turn, 
         left: term_of(phase)?,
         sign,
     };
-    Ok(Turn::Goes(Side::Equal(equation, start(alloc)), false))
+    Ok(ItemStep::Goes(Side::Equal(equation, start(alloc)), false))
 }
 
 /// A `:=` behind the first term.
-fn assign(alloc: Global, at: u32, phase: Phase) -> Result<Turn, NoMemory>
+fn assign(alloc: Global, at: u32, phase: Phase) -> Result<ItemStep, NoMemory>
     ensures { IfOk result (λ r. r ≡ spec.assign at phase) }
 {
     let sums = Sums {
@@ -145,41 +68,58 @@ fn assign(alloc: Global, at: u32, phase: Phase) -> Result<Turn, NoMemory>
         level: nothing(),
         operators: 0,
     };
-    Ok(Turn::Goes(Side::Sum(sums, start(alloc)), false))
+    Ok(ItemStep::Goes(Side::Sum(sums, start(alloc)), false))
 }
 
-/// The word behind a term that is an operand.
-fn behind_leaf(alloc: Global, sums: Sums, phase: Phase, word: Word) -> Result<Turn, NoMemory>
-    ensures { IfOk result (λ r. r ≡ spec.behind_leaf sums phase word) }
+/// The terminal behind a term that is an operand.
+fn behind_leaf(
+    alloc: Global,
+    sums: Sums,
+    phase: Phase,
+    terminal: Terminal,
+) -> Result<ItemStep, NoMemory>
+    ensures { IfOk result (λ r. r ≡ spec.behind_leaf sums phase terminal) }
 {
     let place = place_of(&phase);
-    behind_operand(alloc, sums, Expr::Leaf(term_of(phase)?, place), word)
+    behind_operand(alloc, sums, Expr::Leaf(term_of(phase)?, place), terminal)
 }
 
-/// The word behind the first term of an item, in no bracket.
+/// The terminal behind the first term of an item, in no bracket.
 #[tactic(auto, unfolding(crate::specs::Items::behind_first))]
-fn behind_first(alloc: Global, sums: Sums, phase: Phase, word: Word) -> Result<Turn, NoMemory>
-    ensures { IfOk result (λ r. r ≡ spec.behind_first sums phase word) }
+fn behind_first(
+    alloc: Global,
+    sums: Sums,
+    phase: Phase,
+    terminal: Terminal,
+) -> Result<ItemStep, NoMemory>
+    ensures { IfOk result (λ r. r ≡ spec.behind_first sums phase terminal) }
 {
-    match word {
-        Word::Comma | Word::Bar | Word::Dot(_) => Ok(call_item(alloc, sums.at, phase)),
-        Word::Equals => equate(alloc, sums.at, phase, TermSign::Equals),
-        Word::Same => equate(alloc, sums.at, phase, TermSign::Same),
-        Word::NotSame => equate(alloc, sums.at, phase, TermSign::NotSame),
-        Word::Assign => assign(alloc, sums.at, phase),
-        _ => behind_leaf(alloc, sums, phase, word),
+    if ends_item(terminal) {
+        return Ok(call_item(alloc, sums.at, phase));
+    }
+    match terminal {
+        Terminal::Equals => equate(alloc, sums.at, phase, TermSign::Equals),
+        Terminal::Same => equate(alloc, sums.at, phase, TermSign::Same),
+        Terminal::NotSame => equate(alloc, sums.at, phase, TermSign::NotSame),
+        Terminal::Assign => assign(alloc, sums.at, phase),
+        _ => behind_leaf(alloc, sums, phase, terminal),
     }
 }
 
-/// The word behind a term in no bracket of a term.
+/// The terminal behind a term in no bracket of a term.
 #[tactic(auto, unfolding(crate::specs::Items::behind_whole))]
-fn behind_whole(alloc: Global, sums: Sums, phase: Phase, word: Word) -> Result<Turn, NoMemory>
-    ensures { IfOk result (λ r. r ≡ spec.behind_whole sums phase word) }
+fn behind_whole(
+    alloc: Global,
+    sums: Sums,
+    phase: Phase,
+    terminal: Terminal,
+) -> Result<ItemStep, NoMemory>
+    ensures { IfOk result (λ r. r ≡ spec.behind_whole sums phase terminal) }
 {
     if is_fresh(&sums) {
-        behind_first(alloc, sums, phase, word)
+        behind_first(alloc, sums, phase, terminal)
     } else {
-        behind_leaf(alloc, sums, phase, word)
+        behind_leaf(alloc, sums, phase, terminal)
     }
 }
 
@@ -205,20 +145,26 @@ fn inside(alloc: Global, sums: Sums) -> Result<Sums, NoMemory>
 }
 
 #[tactic(auto, unfolding(crate::specs::Items::step_sum, crate::specs::Items::sum_told))]
-fn step_sum(alloc: Global, mark: bool, sums: Sums, at: TermAt, word: Word) -> Result<Turn, NoMemory>
-    ensures { IfOk result (λ r. r ≡ spec.step_sum mark sums at word) }
+fn step_sum(
+    alloc: Global,
+    mark: bool,
+    sums: Sums,
+    at: TermAt,
+    terminal: Terminal,
+) -> Result<ItemStep, NoMemory>
+    ensures { IfOk result (λ r. r ≡ spec.step_sum mark sums at terminal) }
 {
     let first = is_fresh(&sums) && mark;
-    let large = is_large(first, &at, word);
-    let opens = opens_group(&at, word);
-    match step(alloc, at, word)? {
-        Told::Read(next) => Ok(Turn::Goes(Side::Sum(sums, next), large)),
-        Told::Whole(phase) => behind_whole(alloc, sums, phase, word),
+    let large = is_large(first, &at, terminal);
+    let opens = opens_group(&at, terminal);
+    match step(alloc, at, terminal)? {
+        Told::Read(next) => Ok(ItemStep::Goes(Side::Sum(sums, next), large)),
+        Told::Whole(phase) => behind_whole(alloc, sums, phase, terminal),
         Told::Refused => {
             if opens {
-                Ok(Turn::Goes(Side::Sum(inside(alloc, sums)?, start(alloc)), first))
+                Ok(ItemStep::Goes(Side::Sum(inside(alloc, sums)?, start(alloc)), first))
             } else {
-                Ok(Turn::Refused)
+                Ok(ItemStep::Refused)
             }
         }
     }
@@ -238,57 +184,67 @@ fn equation_item(equation: Equation, right: Term) -> Item
 }
 
 #[tactic(auto, unfolding(crate::specs::Items::step_equal))]
-fn step_equal(alloc: Global, equation: Equation, at: TermAt, word: Word) -> Result<Turn, NoMemory>
-    ensures { IfOk result (λ r. r ≡ spec.step_equal equation at word) }
+fn step_equal(
+    alloc: Global,
+    equation: Equation,
+    at: TermAt,
+    terminal: Terminal,
+) -> Result<ItemStep, NoMemory>
+    ensures { IfOk result (λ r. r ≡ spec.step_equal equation at terminal) }
 {
-    let large = is_large(false, &at, word);
-    match step(alloc, at, word)? {
-        Told::Read(next) => Ok(Turn::Goes(Side::Equal(equation, next), large)),
+    let large = is_large(false, &at, terminal);
+    match step(alloc, at, terminal)? {
+        Told::Read(next) => Ok(ItemStep::Goes(Side::Equal(equation, next), large)),
         Told::Whole(phase) => {
-            if is_end(word) {
-                Ok(Turn::Ends(equation_item(equation, term_of(phase)?)))
+            if ends_item(terminal) {
+                Ok(ItemStep::Ends(equation_item(equation, term_of(phase)?)))
             } else {
-                Ok(Turn::Refused)
+                Ok(ItemStep::Refused)
             }
         }
-        Told::Refused => Ok(Turn::Refused),
+        Told::Refused => Ok(ItemStep::Refused),
     }
 }
 
-/// The place of a word that may begin an item.
-fn place(word: Word) -> u32
-    ensures { result ≡ spec.place word }
+/// The place of a terminal that may begin an item.
+fn place(terminal: Terminal) -> u32
+    ensures { result ≡ spec.place terminal }
 {
-    match word {
-        Word::Int(_, at) => at,
-        Word::Str(_, _, at) => at,
-        Word::Var(_, at) => at,
-        Word::RoundOpen(at) => at,
-        Word::SquareOpen(at) => at,
-        Word::CurlyOpen(at) => at,
+    match terminal {
+        Terminal::Int(_, at) => at,
+        Terminal::Str(_, _, at) => at,
+        Terminal::Var(_, at) => at,
+        Terminal::RoundOpen(at) => at,
+        Terminal::SquareOpen(at) => at,
+        Terminal::CurlyOpen(at) => at,
         _ => 0,
     }
 }
 
-/// One more word of an item. `mark` says that the item is one too many, so that its first word is marked.
+/// One more terminal of an item. `mark` says that the item is one too many, so that its first terminal is marked.
 /// `NoMemory` is the only error.
 #[tactic(auto, unfolding(crate::specs::Items::step_side))]
-pub fn step_side(alloc: Global, mark: bool, side: Side, word: Word) -> Result<Turn, NoMemory>
-    ensures { IfOk result (λ r. r ≡ spec.step_side mark side word) }
+pub fn step_side(
+    alloc: Global,
+    mark: bool,
+    side: Side,
+    terminal: Terminal,
+) -> Result<ItemStep, NoMemory>
+    ensures { IfOk result (λ r. r ≡ spec.step_side mark side terminal) }
 {
     match side {
         Side::Start => {
             let sums = Sums {
-                at: place(word),
+                at: place(terminal),
                 left: LeftSide::Nothing,
                 groups: Stack::empty(alloc),
                 level: nothing(),
                 operators: 0,
             };
-            step_sum(alloc, mark, sums, start(alloc), word)
+            step_sum(alloc, mark, sums, start(alloc), terminal)
         }
-        Side::Equal(equation, at) => step_equal(alloc, equation, at, word),
-        Side::Sum(sums, at) => step_sum(alloc, mark, sums, at, word),
-        Side::Closed(sums, operand) => behind_operand(alloc, sums, operand, word),
+        Side::Equal(equation, at) => step_equal(alloc, equation, at, terminal),
+        Side::Sum(sums, at) => step_sum(alloc, mark, sums, at, terminal),
+        Side::Closed(sums, operand) => behind_operand(alloc, sums, operand, terminal),
     }
 }

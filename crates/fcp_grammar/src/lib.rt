@@ -1,19 +1,22 @@
-//! The grammar of terms, expressions and items over words, and the machine that reads them one word after another.
+//! The grammar of terms, expressions and items over terminals, and the machine that reads them one terminal after another.
 #![tactic(auto)]
 
 mod build;
 mod expressions;
 mod items;
+mod limits;
 mod operands;
+mod sides;
 mod stack;
+mod terminals;
 mod terms;
 #[cfg(test)]
 mod tests;
-mod words;
 
-pub use build::with;
-pub use expressions::{Left, Level};
-pub use items::{Equation, LeftSide, Side, Sums, TermSign, Turn, step_side};
+pub use expressions::{LeftOperand, Level};
+pub use items::step_side;
+pub use limits::{MOST_ARGUMENTS, MOST_ITEMS, MOST_OPERATORS, MOST_VARIABLES};
+pub use sides::{Equation, ItemStep, LeftSide, Side, Sums, TermSign};
 pub use stack::Stack;
-pub use terms::{Frame, MOST_PARTS, Phase, TermAt, Told, is_large, start, step, term_of};
-pub use words::{StringForm, Word};
+pub use terminals::{StringForm, Terminal};
+pub use terms::{Frame, Phase, TermAt, Told, is_large, start, step, term_of};

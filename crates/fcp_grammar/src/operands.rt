@@ -1,20 +1,23 @@
-//! The word behind an operand.
+//! The terminal behind an operand.
 ghost use Rattle.std.specs.Prelude.{◌≡◌, IfOk};
 ghost use Rattle.fcp_grammar.specs.Operands as spec;
 
 use crate::expressions::{before, nothing, whole};
-use crate::items::{LeftSide, Side, Sums, Turn};
+use crate::limits::MOST_OPERATORS;
+use crate::sides::{ItemStep, LeftSide, Side, Sums};
+use crate::terminals::{StringForm, Terminal, ends_item};
 use crate::terms::start;
-use crate::words::{StringForm, Word};
 use fcp_model::{ArithOp, Call, CompareOp, Expr, Item, NoMemory};
 use std::alloc::Global;
-
-const MOST_OPERATORS: u32 = 256;
 
 fn more(count: u32) -> u32
     ensures { result ≡ spec.more count }
 {
-    if count < 257 { count + 1 } else { count }
+    if count <= MOST_OPERATORS {
+        count + 1
+    } else {
+        count
+    }
 }
 
 fn behind_operator(
@@ -22,7 +25,7 @@ fn behind_operator(
     sums: Sums,
     operator: ArithOp,
     operand: Expr,
-) -> Result<Turn, NoMemory>
+) -> Result<ItemStep, NoMemory>
     ensures { IfOk result (λ r. r ≡ spec.behind_operator sums operator operand) }
 {
     let Sums {
@@ -39,11 +42,11 @@ fn behind_operator(
         level: before(alloc, level, operator, operand)?,
         operators: more(operators),
     };
-    Ok(Turn::Goes(Side::Sum(next, start(alloc)), operators >= MOST_OPERATORS))
+    Ok(ItemStep::Goes(Side::Sum(next, start(alloc)), operators >= MOST_OPERATORS))
 }
 
 /// Behind the `)` the parenthesis is an operand of what stood before it.
-fn behind_close(alloc: Global, sums: Sums, operand: Expr) -> Result<Turn, NoMemory>
+fn behind_close(alloc: Global, sums: Sums, operand: Expr) -> Result<ItemStep, NoMemory>
     ensures { IfOk result (λ r. r ≡ spec.behind_close sums operand) }
 {
     let Sums {
@@ -54,7 +57,7 @@ fn behind_close(alloc: Global, sums: Sums, operand: Expr) -> Result<Turn, NoMemo
         operators,
     } = sums;
     match groups.pop() {
-        None => Ok(Turn::Refused),
+        None => Ok(ItemStep::Refused),
         Some(outer) => {
             let inner = whole(alloc, level, operand)?;
             let next = Sums {
@@ -64,7 +67,7 @@ fn behind_close(alloc: Global, sums: Sums, operand: Expr) -> Result<Turn, NoMemo
                 level: outer,
                 operators,
             };
-            Ok(Turn::Goes(Side::Closed(next, inner), false))
+            Ok(ItemStep::Goes(Side::Closed(next, inner), false))
         }
     }
 }
@@ -75,7 +78,7 @@ fn behind_comparison(
     sums: Sums,
     comparison: CompareOp,
     operand: Expr,
-) -> Result<Turn, NoMemory>
+) -> Result<ItemStep, NoMemory>
     ensures { IfOk result (λ r. r ≡ spec.behind_comparison sums comparison operand) }
 {
     let Sums {
@@ -86,7 +89,7 @@ fn behind_comparison(
         operators,
     } = sums;
     if !groups.is_empty() {
-        return Ok(Turn::Refused);
+        return Ok(ItemStep::Refused);
     }
     match left {
         LeftSide::Nothing => {
@@ -97,14 +100,14 @@ fn behind_comparison(
                 level: nothing(),
                 operators,
             };
-            Ok(Turn::Goes(Side::Sum(next, start(alloc)), false))
+            Ok(ItemStep::Goes(Side::Sum(next, start(alloc)), false))
         }
-        LeftSide::Compared(_, _) | LeftSide::Assigned(_) => Ok(Turn::Refused),
+        LeftSide::Compared(_, _) | LeftSide::Assigned(_) => Ok(ItemStep::Refused),
     }
 }
 
 /// An expression alone is no item.
-fn behind_item(alloc: Global, sums: Sums, operand: Expr) -> Result<Turn, NoMemory>
+fn behind_item(alloc: Global, sums: Sums, operand: Expr) -> Result<ItemStep, NoMemory>
     ensures { IfOk result (λ r. r ≡ spec.behind_item sums operand) }
 {
     let Sums {
@@ -115,40 +118,42 @@ fn behind_item(alloc: Global, sums: Sums, operand: Expr) -> Result<Turn, NoMemor
         operators: _,
     } = sums;
     if !groups.is_empty() {
-        return Ok(Turn::Refused);
+        return Ok(ItemStep::Refused);
     }
     match left {
-        LeftSide::Nothing => Ok(Turn::Refused),
-        LeftSide::Compared(left, comparison) => Ok(Turn::Ends(Item {
+        LeftSide::Nothing => Ok(ItemStep::Refused),
+        LeftSide::Compared(left, comparison) => Ok(ItemStep::Ends(Item {
             at,
             call: Call::Compare(comparison, left, whole(alloc, level, operand)?),
         })),
-        LeftSide::Assigned(left) => Ok(Turn::Ends(Item {
+        LeftSide::Assigned(left) => Ok(ItemStep::Ends(Item {
             at,
             call: Call::Assign(left, whole(alloc, level, operand)?),
         })),
     }
 }
 
-/// The word behind an operand, as far as nothing but operands may stand there.
+/// The terminal behind an operand, as far as nothing but operands may stand there.
 #[tactic(auto, unfolding(crate::specs::Operands::behind_operand))]
 pub fn behind_operand(
     alloc: Global,
     sums: Sums,
     operand: Expr,
-    word: Word,
-) -> Result<Turn, NoMemory>
-    ensures { IfOk result (λ r. r ≡ spec.behind_operand sums operand word) }
+    terminal: Terminal,
+) -> Result<ItemStep, NoMemory>
+    ensures { IfOk result (λ r. r ≡ spec.behind_operand sums operand terminal) }
 {
-    match word {
-        Word::Operator(operator, _) => match operator {
-            ArithOp::Mod => Ok(Turn::Refused),
+    if ends_item(terminal) {
+        return behind_item(alloc, sums, operand);
+    }
+    match terminal {
+        Terminal::Operator(operator, _) => match operator {
+            ArithOp::Mod => Ok(ItemStep::Refused),
             _ => behind_operator(alloc, sums, operator, operand),
         },
-        Word::Str(_, StringForm::Mod, _) => behind_operator(alloc, sums, ArithOp::Mod, operand),
-        Word::RoundClose => behind_close(alloc, sums, operand),
-        Word::Compare(comparison) => behind_comparison(alloc, sums, comparison, operand),
-        Word::Comma | Word::Bar | Word::Dot(_) => behind_item(alloc, sums, operand),
-        _ => Ok(Turn::Refused),
+        Terminal::Str(_, StringForm::Mod, _) => behind_operator(alloc, sums, ArithOp::Mod, operand),
+        Terminal::RoundClose => behind_close(alloc, sums, operand),
+        Terminal::Compare(comparison) => behind_comparison(alloc, sums, comparison, operand),
+        _ => Ok(ItemStep::Refused),
     }
 }

@@ -1,10 +1,11 @@
-//! Reading terms, one word after another.
+//! Reading terms, one terminal after another.
 ghost use Rattle.std.specs.Prelude.{◌≡◌, IfOk};
 ghost use Rattle.fcp_grammar.specs.Terms as spec;
 
-use crate::build::{list, tuple, with};
+use crate::build::{list, tuple};
+use crate::limits::{MOST_ARGUMENTS, MOST_VARIABLES};
 use crate::stack::Stack;
-use crate::words::Word;
+use crate::terminals::Terminal;
 use fcp_model::{NoMemory, Seq, Sym, Term};
 use std::alloc::Global;
 
@@ -45,29 +46,29 @@ pub struct TermAt {
     pub phase: Phase,
 }
 
-/// What a word is to a term.
+/// What a terminal is to a term.
 #[derive(Drop)]
 pub enum Told {
-    /// The word goes on.
+    /// The terminal goes on.
     Read(TermAt),
-    /// The term has ended before the word.
+    /// The term has ended before the terminal.
     Whole(Phase),
-    /// No term goes on with the word.
+    /// No term goes on with the terminal.
     Refused,
 }
 
 /// A term begins.
 #[tactic(auto, unfolding(crate::specs::Terms::begin))]
-fn begin(alloc: Global, stack: Stack<Frame>, word: Word) -> Result<Told, NoMemory>
-    ensures { IfOk result (λ r. r ≡ spec.begin stack word) }
+fn begin(alloc: Global, stack: Stack<Frame>, terminal: Terminal) -> Result<Told, NoMemory>
+    ensures { IfOk result (λ r. r ≡ spec.begin stack terminal) }
 {
     let mut stack = stack;
-    let phase = match word {
-        Word::Int(number, at) => Phase::Have(at, Term::Int(number)),
-        Word::Str(name, _, at) => Phase::Named(at, name),
-        Word::Var(number, at) => Phase::Variable(at, number),
-        Word::SquareOpen(at) => Phase::Opened(at),
-        Word::CurlyOpen(at) => {
+    let phase = match terminal {
+        Terminal::Int(number, at) => Phase::Have(at, Term::Int(number)),
+        Terminal::Str(name, _, at) => Phase::Named(at, name),
+        Terminal::Var(number, at) => Phase::Variable(at, number),
+        Terminal::SquareOpen(at) => Phase::Opened(at),
+        Terminal::CurlyOpen(at) => {
             stack.push(Frame::Braces(at, Seq::empty(alloc)))?;
             Phase::Want
         }
@@ -90,109 +91,114 @@ pub fn term_of(phase: Phase) -> Result<Term, NoMemory>
     }
 }
 
-/// The word behind a term that is a part of what the bracket holds.
+/// The terminal behind a term that is a part of what the bracket holds.
 #[tactic(auto, unfolding(crate::specs::Terms::in_frame))]
 fn in_frame(
     alloc: Global,
     frame: Frame,
     stack: Stack<Frame>,
     term: Term,
-    word: Word,
+    terminal: Terminal,
 ) -> Result<Told, NoMemory>
-    ensures { IfOk result (λ r. r ≡ spec.in_frame frame stack term word) }
+    ensures { IfOk result (λ r. r ≡ spec.in_frame frame stack term terminal) }
 {
     let mut stack = stack;
     let phase = match frame {
-        Frame::Call(at, name, done) => match word {
-            Word::Comma => {
-                stack.push(Frame::Call(at, name, with(done, term)?))?;
+        Frame::Call(at, name, done) => match terminal {
+            Terminal::Comma => {
+                stack.push(Frame::Call(at, name, done.with(term)?))?;
                 Phase::Want
             }
-            Word::RoundClose => Phase::Called(at, name, with(done, term)?),
+            Terminal::RoundClose => Phase::Called(at, name, done.with(term)?),
             _ => return Ok(Told::Refused),
         },
-        Frame::List(at, done) => match word {
-            Word::Comma => {
-                stack.push(Frame::List(at, with(done, term)?))?;
+        Frame::List(at, done) => match terminal {
+            Terminal::Comma => {
+                stack.push(Frame::List(at, done.with(term)?))?;
                 Phase::Want
             }
-            Word::Bar => {
-                stack.push(Frame::Rest(at, with(done, term)?))?;
+            Terminal::Bar => {
+                stack.push(Frame::Rest(at, done.with(term)?))?;
                 Phase::Want
             }
-            Word::SquareClose => Phase::Have(at, list(alloc, with(done, term)?, Term::Nil)?),
+            Terminal::SquareClose => Phase::Have(at, list(alloc, done.with(term)?, Term::Nil)?),
             _ => return Ok(Told::Refused),
         },
-        Frame::Rest(at, done) => match word {
-            Word::SquareClose => Phase::Have(at, list(alloc, done, term)?),
+        Frame::Rest(at, done) => match terminal {
+            Terminal::SquareClose => Phase::Have(at, list(alloc, done, term)?),
             _ => return Ok(Told::Refused),
         },
-        Frame::Braces(at, done) => match word {
-            Word::Comma => {
-                stack.push(Frame::Braces(at, with(done, term)?))?;
+        Frame::Braces(at, done) => match terminal {
+            Terminal::Comma => {
+                stack.push(Frame::Braces(at, done.with(term)?))?;
                 Phase::Want
             }
-            Word::CurlyClose => Phase::Have(at, Term::Tuple(with(done, term)?)),
+            Terminal::CurlyClose => Phase::Have(at, Term::Tuple(done.with(term)?)),
             _ => return Ok(Told::Refused),
         },
     };
     Ok(Told::Read(TermAt { stack, phase }))
 }
 
-/// The word behind a term.
+/// The terminal behind a term.
 #[tactic(auto, unfolding(crate::specs::Terms::behind))]
-fn behind(alloc: Global, stack: Stack<Frame>, phase: Phase, word: Word) -> Result<Told, NoMemory>
-    ensures { IfOk result (λ r. r ≡ spec.behind stack phase word) }
+fn behind(
+    alloc: Global,
+    stack: Stack<Frame>,
+    phase: Phase,
+    terminal: Terminal,
+) -> Result<Told, NoMemory>
+    ensures { IfOk result (λ r. r ≡ spec.behind stack phase terminal) }
 {
     let mut stack = stack;
     match stack.pop() {
         None => Ok(Told::Whole(phase)),
-        Some(frame) => in_frame(alloc, frame, stack, term_of(phase)?, word),
+        Some(frame) => in_frame(alloc, frame, stack, term_of(phase)?, terminal),
     }
 }
 
-/// One more word of a term. `NoMemory` is the only error.
+/// One more terminal of a term. `NoMemory` is the only error.
 #[tactic(auto, unfolding(crate::specs::Terms::step_by))]
-pub fn step(alloc: Global, at: TermAt, word: Word) -> Result<Told, NoMemory>
-    ensures { IfOk result (λ r. r ≡ spec.step at word) }
+pub fn step(alloc: Global, at: TermAt, terminal: Terminal) -> Result<Told, NoMemory>
+    ensures { IfOk result (λ r. r ≡ spec.step at terminal) }
 {
     let TermAt { mut stack, phase } = at;
     match phase {
-        Phase::Want => begin(alloc, stack, word),
-        Phase::Opened(place) => match word {
-            Word::SquareClose => Ok(Told::Read(TermAt {
+        Phase::Want => begin(alloc, stack, terminal),
+        Phase::Opened(place) => match terminal {
+            Terminal::SquareClose => Ok(Told::Read(TermAt {
                 stack,
                 phase: Phase::Have(place, Term::Nil),
             })),
             _ => {
                 stack.push(Frame::List(place, Seq::empty(alloc)))?;
-                begin(alloc, stack, word)
+                begin(alloc, stack, terminal)
             }
         },
-        Phase::Named(place, name) => match word {
-            Word::RoundOpen(_) => {
+        Phase::Named(place, name) => match terminal {
+            Terminal::RoundOpen(_) => {
                 stack.push(Frame::Call(place, name, Seq::empty(alloc)))?;
                 Ok(Told::Read(TermAt {
                     stack,
                     phase: Phase::Want,
                 }))
             }
-            _ => behind(alloc, stack, Phase::Named(place, name), word),
+            _ => behind(alloc, stack, Phase::Named(place, name), terminal),
         },
-        Phase::Variable(place, number) => match word {
-            Word::Question => Ok(Told::Read(TermAt {
+        Phase::Variable(place, number) => match terminal {
+            Terminal::Question => Ok(Told::Read(TermAt {
                 stack,
                 phase: Phase::Have(place, Term::Ro(number)),
             })),
-            _ => behind(alloc, stack, Phase::Variable(place, number), word),
+            _ => behind(alloc, stack, Phase::Variable(place, number), terminal),
         },
         Phase::Called(place, name, args) => behind(
             alloc,
             stack,
             Phase::Called(place, name, args),
-            word,
+            terminal,
         ),
-        Phase::Have(place, term) => behind(alloc, stack, Phase::Have(place, term), word),
+        Phase::Have(place, term) => behind(alloc, stack, Phase::Have(place, term), terminal),
     }
 }
 
@@ -220,12 +226,6 @@ pub fn start(alloc: Global) -> TermAt
     }
 }
 
-/// The most arguments of a string, and the most parts of a tuple in braces.
-pub const MOST_PARTS: usize = 64;
-
-/// The most variables of a clause or a goal.
-pub const MOST_VARIABLES: u8 = 250;
-
 /// Whether the next term in the bracket is one too many. `outside` says so of a term in no bracket.
 #[tactic(auto, unfolding(crate::specs::Terms::full))]
 fn full(outside: bool, stack: &Stack<Frame>) -> bool
@@ -234,38 +234,38 @@ fn full(outside: bool, stack: &Stack<Frame>) -> bool
     match stack.top() {
         None => outside,
         Some(frame) => match frame {
-            Frame::Call(_, _, done) => done.len() >= MOST_PARTS,
-            Frame::Braces(_, done) => done.len() >= MOST_PARTS,
+            Frame::Call(_, _, done) => done.len() >= MOST_ARGUMENTS,
+            Frame::Braces(_, done) => done.len() >= MOST_ARGUMENTS,
             Frame::List(_, _) | Frame::Rest(_, _) => false,
         },
     }
 }
 
-/// Whether the word is one too many, where `outside` says that whatever it begins is.
-fn large_by(outside: bool, word: Word) -> bool
-    ensures { result ≡ spec.large_by outside word }
+/// Whether the terminal is one too many, where `outside` says that whatever it begins is.
+fn large_by(outside: bool, terminal: Terminal) -> bool
+    ensures { result ≡ spec.large_by outside terminal }
 {
-    match word {
-        Word::Var(number, _) => outside || number > MOST_VARIABLES,
+    match terminal {
+        Terminal::Var(number, _) => outside || number > MOST_VARIABLES,
         _ => outside,
     }
 }
 
-/// Whether the word begins a part that is one too many, or is a variable that is. `outside` says that the whole term is one too many.
+/// Whether the terminal begins a part that is one too many, or is a variable that is. `outside` says that the whole term is one too many.
 #[tactic(auto, unfolding(crate::specs::Terms::is_large))]
-pub fn is_large(outside: bool, at: &TermAt, word: Word) -> bool
-    ensures { result ≡ spec.is_large outside at.now word }
+pub fn is_large(outside: bool, at: &TermAt, terminal: Terminal) -> bool
+    ensures { result ≡ spec.is_large outside at.now terminal }
 {
     let wanted = matches!(at.phase, Phase::Want);
-    large_by(wanted && full(outside, &at.stack), word)
+    large_by(wanted && full(outside, &at.stack), terminal)
 }
 
-/// Whether the word is a `(` where the term has to begin: an expression's, since no term begins with one.
-pub fn opens_group(at: &TermAt, word: Word) -> bool
-    ensures { result ≡ spec.opens_group at.now word }
+/// Whether the terminal is a `(` where the term has to begin: an expression's, since no term begins with one.
+pub fn opens_group(at: &TermAt, terminal: Terminal) -> bool
+    ensures { result ≡ spec.opens_group at.now terminal }
 {
-    match word {
-        Word::RoundOpen(_) => match at.phase {
+    match terminal {
+        Terminal::RoundOpen(_) => match at.phase {
             Phase::Want => at.stack.is_empty(),
             _ => false,
         },

@@ -1,40 +1,40 @@
-use crate::{Side, StringForm, Turn, Word, step_side};
+use crate::{ItemStep, Side, StringForm, Terminal, step_side};
 use fcp_model::{ArithOp, Call, CompareOp, Expr, Item, Sym, Term};
 use std::alloc::Global;
 use std::test::Fail;
 
-const A: Word = Word::Str(Sym(9), StringForm::Name, 0);
+const A: Terminal = Terminal::Str(Sym(9), StringForm::Name, 0);
 
-const MOD: Word = Word::Str(Sym(10), StringForm::Mod, 0);
+const MOD: Terminal = Terminal::Str(Sym(10), StringForm::Mod, 0);
 
-const QUOTED_MOD: Word = Word::Str(Sym(10), StringForm::Quoted, 0);
+const QUOTED_MOD: Terminal = Terminal::Str(Sym(10), StringForm::Quoted, 0);
 
-const X: Word = Word::Var(1, 0);
+const X: Terminal = Terminal::Var(1, 0);
 
-const ONE: Word = Word::Int(1, 0);
+const ONE: Terminal = Terminal::Int(1, 0);
 
-const LESS: Word = Word::Compare(CompareOp::Less);
+const LESS: Terminal = Terminal::Compare(CompareOp::Less);
 
-const OPEN: Word = Word::RoundOpen(0);
+const OPEN: Terminal = Terminal::RoundOpen(0);
 
-const PLUS: Word = Word::Operator(ArithOp::Add, 0);
+const PLUS: Terminal = Terminal::Operator(ArithOp::Add, 0);
 
-const TIMES: Word = Word::Operator(ArithOp::Mul, 0);
+const TIMES: Terminal = Terminal::Operator(ArithOp::Mul, 0);
 
-const DOT: Word = Word::Dot(1);
+const DOT: Terminal = Terminal::Dot(1);
 
-/// The item that ends before the last of the words.
-fn read(alloc: Global, words: &[Word]) -> Result<Option<Item>, Fail> {
+/// The item that ends before the last of the terminals.
+fn read(alloc: Global, terminals: &[Terminal]) -> Result<Option<Item>, Fail> {
     let mut side = Side::Start;
-    for (i, word) in words.iter().enumerate() {
-        match step_side(alloc, false, side, *word)? {
-            Turn::Goes(next, _) => side = next,
-            Turn::Ends(item) => return Ok(if i + 1 == words.len() {
+    for (i, terminal) in terminals.iter().enumerate() {
+        match step_side(alloc, false, side, *terminal)? {
+            ItemStep::Goes(next, _) => side = next,
+            ItemStep::Ends(item) => return Ok(if i + 1 == terminals.len() {
                 Some(item)
             } else {
                 None
             }),
-            Turn::Refused => return Ok(None),
+            ItemStep::Refused => return Ok(None),
         }
     }
     Ok(None)
@@ -48,43 +48,49 @@ fn items_are_read(rt: HostRuntime) -> Result<(), Fail> {
             A,
             OPEN,
             X,
-            Word::Comma,
+            Terminal::Comma,
             X,
-            Word::Question,
-            Word::RoundClose,
-            Word::Bar,
+            Terminal::Question,
+            Terminal::RoundClose,
+            Terminal::Bar,
         ],
         &[
-            Word::SquareOpen(0),
+            Terminal::SquareOpen(0),
             A,
-            Word::Comma,
+            Terminal::Comma,
             ONE,
-            Word::Bar,
+            Terminal::Bar,
             X,
-            Word::SquareClose,
-            Word::NotSame,
-            Word::CurlyOpen(0),
+            Terminal::SquareClose,
+            Terminal::NotSame,
+            Terminal::CurlyOpen(0),
             A,
-            Word::CurlyClose,
-            Word::Comma,
+            Terminal::CurlyClose,
+            Terminal::Comma,
         ],
-        &[X, Word::Same, Word::SquareOpen(0), Word::SquareClose, DOT],
-        &[X, Word::Equals, A, OPEN, A, Word::RoundClose, DOT],
         &[
             X,
-            Word::Assign,
+            Terminal::Same,
+            Terminal::SquareOpen(0),
+            Terminal::SquareClose,
+            DOT,
+        ],
+        &[X, Terminal::Equals, A, OPEN, A, Terminal::RoundClose, DOT],
+        &[
+            X,
+            Terminal::Assign,
             ONE,
             MOD,
             OPEN,
             X,
             TIMES,
             ONE,
-            Word::RoundClose,
+            Terminal::RoundClose,
             PLUS,
             ONE,
             DOT,
         ],
-        &[MOD, MOD, MOD, LESS, OPEN, ONE, Word::RoundClose, DOT],
+        &[MOD, MOD, MOD, LESS, OPEN, ONE, Terminal::RoundClose, DOT],
     ];
     for row in rows {
         assert!(rt; read(rt.alloc(), row)?.is_some(), "{row:?}");
@@ -93,28 +99,28 @@ fn items_are_read(rt: HostRuntime) -> Result<(), Fail> {
 }
 
 #[test]
-fn other_words_are_no_items(rt: HostRuntime) -> Result<(), Fail> {
+fn other_terminals_are_no_items(rt: HostRuntime) -> Result<(), Fail> {
     let rows = [
         [DOT].as_slice(),
         &[X, DOT],
         &[ONE, PLUS, ONE, DOT],
-        &[Word::CurlyOpen(0), A, Word::CurlyClose, DOT],
+        &[Terminal::CurlyOpen(0), A, Terminal::CurlyClose, DOT],
         &[ONE, LESS, ONE, LESS, ONE, DOT],
-        &[X, Word::Assign, ONE, LESS, ONE, DOT],
+        &[X, Terminal::Assign, ONE, LESS, ONE, DOT],
         &[ONE, QUOTED_MOD, ONE, LESS, ONE, DOT],
-        &[X, Word::Equals, ONE, PLUS, ONE, DOT],
-        &[OPEN, X, Word::RoundClose, Word::Equals, ONE, DOT],
-        &[A, OPEN, Word::RoundClose, DOT],
+        &[X, Terminal::Equals, ONE, PLUS, ONE, DOT],
+        &[OPEN, X, Terminal::RoundClose, Terminal::Equals, ONE, DOT],
+        &[A, OPEN, Terminal::RoundClose, DOT],
         &[
             X,
-            Word::Equals,
-            Word::SquareOpen(0),
+            Terminal::Equals,
+            Terminal::SquareOpen(0),
             A,
-            Word::Bar,
+            Terminal::Bar,
             X,
-            Word::Bar,
+            Terminal::Bar,
             X,
-            Word::SquareClose,
+            Terminal::SquareClose,
             DOT,
         ],
     ];
@@ -127,17 +133,17 @@ fn other_words_are_no_items(rt: HostRuntime) -> Result<(), Fail> {
 /// `X := 1 - 2 * 3` from place 7 on.
 #[test]
 fn an_item_has_its_value(rt: HostRuntime) -> Result<(), Fail> {
-    let words = [
-        Word::Var(1, 7),
-        Word::Assign,
-        Word::Int(1, 12),
-        Word::Operator(ArithOp::Sub, 14),
-        Word::Int(2, 16),
-        Word::Operator(ArithOp::Mul, 18),
-        Word::Int(3, 20),
+    let terminals = [
+        Terminal::Var(1, 7),
+        Terminal::Assign,
+        Terminal::Int(1, 12),
+        Terminal::Operator(ArithOp::Sub, 14),
+        Terminal::Int(2, 16),
+        Terminal::Operator(ArithOp::Mul, 18),
+        Terminal::Int(3, 20),
         DOT,
     ];
-    let item = read(rt.alloc(), &words)?.ok_or("no item")?;
+    let item = read(rt.alloc(), &terminals)?.ok_or("no item")?;
     assert!(rt; item.at == 7);
     let Call::Assign(Term::Var(1), Expr::Op(ArithOp::Sub, one, product)) = &item.call else {
         return Err("not the item".into());

@@ -6,7 +6,7 @@ use Rattle.fcp_reader.specs.declared.goals.GoalAt.{GoalAt}
 use Rattle.fcp_reader.specs.Goals.{step, beginning, whole}
 use Rattle.fcp_reader.specs.GoalGrammar.{GoalTree, goal_value, spell_goal_text}
 use Rattle.fcp_reader.proofs.FollowGoals.{goal_ends, follow-goal-text, whole-goal}
-use Rattle.fcp_reader.proofs.PartialGoals.{PartGoal, starting, state_of, words_of, goes, whole-part}
+use Rattle.fcp_reader.proofs.PartialGoals.{PartGoal, starting, state_of, terminals_of, goes, whole-part}
 use Rattle.fcp_reader.proofs.Finishing.{finish-goal}
 use Rattle.fcp_reader.proofs.Machines.{Machine}
 
@@ -19,10 +19,10 @@ goals = record {
   ends = goal_ends;
   whole = whole;
   state_of = state_of;
-  words_of = words_of;
+  terminals_of = terminals_of;
   none = starting no_items;
   none-state = refl;
-  none-words = λ rest. refl;
+  none-terminals = λ rest. refl;
   follows = follow-goal-text;
   goes = goes;
   finish = finish-goal;

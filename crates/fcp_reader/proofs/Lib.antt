@@ -14,11 +14,11 @@ pub mod Few
 pub mod ModuleMachine
 pub mod GoalMachine
 pub mod LawProofs
-pub mod TokenWords
+pub mod TokenTerminals
 pub mod TextLaws
 pub mod Sourced
 pub mod Bounded
-pub mod KnownWords
+pub mod KnownTerminals
 pub mod TermLimits
 pub mod ItemLimits
 pub mod ClauseLimits

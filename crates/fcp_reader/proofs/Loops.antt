@@ -7,14 +7,14 @@ use Rattle.std.proofs.Math.Seq.{take-length}
 use Rattle.std.proofs.lemmas.Bool.Decides.{nat_tests}
 use Rattle.fcp_model.specs.declared.fault.Code.{Code}
 use Rattle.fcp_model.specs.declared.fault.Code.TheVariants as code
-use Rattle.fcp_grammar.specs.declared.words.Word.{Word}
-use Rattle.fcp_grammar.specs.declared.words.Word.TheVariants as W
+use Rattle.fcp_grammar.specs.declared.terminals.Terminal.{Terminal}
+use Rattle.fcp_grammar.specs.declared.terminals.Terminal.TheVariants as terminal
 use Rattle.fcp_reader.specs.Faults.{Sound, SoundBefore, depth_from, deeper, is_opening, fault_of, FaultAt, IsFirstFault, Deep}
 use Rattle.fcp_reader.specs.Texts.{clean, Are}
 use Rattle.fcp_reader.proofs.Machines.{Machine}
 use Rattle.fcp_reader.proofs.Verdicts.{Reached, reached-nothing, reached-more, begins, large, small, not-begins, whole-text, no-text}
 
-depth-more : (d : ℕ) (us : List Word) (w : Word) → depth_from d (us ++ w ∷ []) ≡ deeper (depth_from d us) w
+depth-more : (d : ℕ) (us : List Terminal) (w : Terminal) → depth_from d (us ++ w ∷ []) ≡ deeper (depth_from d us) w
 depth-more d [] w = refl
 depth-more d (u ∷ us) w = depth-more (deeper d u) us w
 
@@ -46,92 +46,106 @@ no-fault true false false e = (refl, refl)
 no-fault false deep true e = cc
 no-fault false deep false e = (refl, refl)
 
-shallow-by : (us : List Word) (w : Word) (d : ℕ) → d ≡ depth_from 0 us → (is_opening w && nat_le 256 d) ≡ false → Deep us w → ⊥
+shallow-by : (us : List Terminal) (w : Terminal) (d : ℕ) → d ≡ depth_from 0 us → (is_opening w && nat_le 256 d) ≡ false → Deep us w → ⊥
 shallow-by us w d e f h =
     let t : nat_le 256 d ≡ true = le-true 256 d (omega (arith, h.1)) in
     let g : (is_opening w && nat_le 256 d) ≡ true = ap (λ b. b && nat_le 256 d) h.0 ∙ t in
     cc
 
-deeper-few : (d : ℕ) (w : Word) → d ≤ 256 → (is_opening w && nat_le 256 d) ≡ false → deeper d w ≤ 256
-deeper-few d (W.RoundOpen a) h f = let g : d < 256 = lt-of 256 d f in omega arith
-deeper-few d (W.SquareOpen a) h f = let g : d < 256 = lt-of 256 d f in omega arith
-deeper-few d (W.CurlyOpen a) h f = let g : d < 256 = lt-of 256 d f in omega arith
-deeper-few d W.RoundClose h f = omega arith
-deeper-few d W.SquareClose h f = omega arith
-deeper-few d W.CurlyClose h f = omega arith
-deeper-few d (W.Dot n) h f = omega arith
+deeper-few : (d : ℕ) (w : Terminal) → d ≤ 256 → (is_opening w && nat_le 256 d) ≡ false → deeper d w ≤ 256
+deeper-few d (terminal.RoundOpen a) h f = let g : d < 256 = lt-of 256 d f in omega arith
+deeper-few d (terminal.SquareOpen a) h f = let g : d < 256 = lt-of 256 d f in omega arith
+deeper-few d (terminal.CurlyOpen a) h f = let g : d < 256 = lt-of 256 d f in omega arith
+deeper-few d terminal.RoundClose h f = omega arith
+deeper-few d terminal.SquareClose h f = omega arith
+deeper-few d terminal.CurlyClose h f = omega arith
+deeper-few d (terminal.Dot n) h f = omega arith
 deeper-few d _ h f = h
 
-same : (v w : Word) → Some v ≡ Some w → v ≡ w
+same : (v w : Terminal) → Some v ≡ Some w → v ≡ w
 same v w e = cc
 
--- a word stands at no position past the end
-pub get-within : (ws : List Word) (k : ℕ) (w : Word) → slice_get ws k ≡ Some w → k < length ws
+-- a terminal stands at no position past the end
+pub get-within : (ws : List Terminal) (k : ℕ) (w : Terminal) → slice_get ws k ≡ Some w → k < length ws
 get-within [] k w e = cc
 get-within (v ∷ ws) zero w e = omega arith
 get-within (v ∷ ws) (suc k) w e = let h : k < length ws = get-within ws k w e in omega arith
 
 module _ {S T P V : Type 0} (M : Machine S T P V) where
-  pub record Kept (words : List Word) (i : ℕ) (state : S) (depth : ℕ) : Type 0 where
-    pub reached : Reached M (take i words) state
-    pub deep : depth ≡ depth_from 0 (take i words)
+  pub record Kept (terminals : List Terminal) (i : ℕ) (state : S) (depth : ℕ) : Type 0 where
+    pub reached : Reached M (take i terminals) state
+    pub deep : depth ≡ depth_from 0 (take i terminals)
     pub few : depth ≤ 256
-    pub sound : SoundBefore M.spell words i
+    pub sound : SoundBefore M.spell terminals i
 
-  pub none-yet : (words : List Word) → Kept words 0 M.beginning 0
-  none-yet words = record { reached = reached-nothing M; deep = refl; few = lit≤ tt; sound = λ k h. absurd (omega arith) }
+  pub none-yet : (terminals : List Terminal) → Kept terminals 0 M.beginning 0
+  none-yet terminals = record { reached = reached-nothing M; deep = refl; few = lit≤ tt; sound = λ k h. absurd (omega arith) }
 
-  module _ (words : List Word) (i : ℕ) (s : S) (d : ℕ) (x : Word) (kept : Kept words i s d) (within : i < length words) where
-    pub stop-unexpected : M.step s (get_or words i x) ≡ None → IsFirstFault M.spell words code.Unexpected i
-    stop-unexpected e = (kept.sound, inr (get_or words i x, slice_get-get_or words i x within, not-begins M (take i words) s (get_or words i x) kept.reached.walked-is e))
+  module _ (terminals : List Terminal) (i : ℕ) (s : S) (d : ℕ) (x : Terminal) (kept : Kept terminals i s d)
+      (within : i < length terminals) where
+    pub stop-unexpected : M.step s (get_or terminals i x) ≡ None → IsFirstFault M.spell terminals code.Unexpected i
+    stop-unexpected e =
+        (kept.sound, inr (get_or terminals i x, slice_get-get_or terminals i x within,
+        not-begins M (take i terminals) s (get_or terminals i x) kept.reached.walked-is e))
 
-    pub stop-fault : (t : S) (b : Bool) (c : Code) → M.step s (get_or words i x) ≡ Some (t, b) → fault_of d (get_or words i x) b ≡ Some c → IsFirstFault M.spell words c i
+    pub stop-fault : (t : S) (b : Bool) (c : Code) → M.step s (get_or terminals i x) ≡ Some (t, b)
+        → fault_of d (get_or terminals i x) b ≡ Some c → IsFirstFault M.spell terminals c i
     stop-fault t b c e f =
-        let w : Word = get_or words i x in
-        let us : List Word = take i words in
+        let w : Terminal = get_or terminals i x in
+        let us : List Terminal = take i terminals in
         let at : FaultAt M.spell c us w =
         elim (fault-is (is_opening w) (nat_le 256 d) b c f) [
-          | inl h ↦ subst (λ v. FaultAt M.spell v us w) (sym h.0) (begins M us s t w b kept.reached e, (h.1, omega (arith, le-of 256 d h.2, kept.deep)))
-          | inr h ↦ subst (λ v. FaultAt M.spell v us w) (sym h.0) (begins M us s t w b kept.reached e, shallow-by us w d kept.deep h.2, large M us s t w kept.reached (e ∙ ap (λ v. Some (t, v)) h.1))
+          | inl h ↦ subst (λ v. FaultAt M.spell v us w) (sym h.0)
+              (begins M us s t w b kept.reached e, (h.1, omega (arith, le-of 256 d h.2, kept.deep)))
+          | inr h ↦ subst (λ v. FaultAt M.spell v us w) (sym h.0)
+              (begins M us s t w b kept.reached e, shallow-by us w d kept.deep h.2,
+              large M us s t w kept.reached (e ∙ ap (λ v. Some (t, v)) h.1))
         ] in
-        (kept.sound, inr (w, slice_get-get_or words i x within, at))
+        (kept.sound, inr (w, slice_get-get_or terminals i x within, at))
 
-    pub go-on : (t : S) (b : Bool) → M.step s (get_or words i x) ≡ Some (t, b) → fault_of d (get_or words i x) b ≡ None → Kept words (i + 1) t (deeper d (get_or words i x))
+    pub go-on : (t : S) (b : Bool) → M.step s (get_or terminals i x) ≡ Some (t, b) → fault_of d (get_or terminals i x) b ≡ None
+        → Kept terminals (i + 1) t (deeper d (get_or terminals i x))
     go-on t b e f =
-        let w : Word = get_or words i x in
-        let us : List Word = take i words in
+        let w : Terminal = get_or terminals i x in
+        let us : List Terminal = take i terminals in
         let n : (b ≡ false) × ((is_opening w && nat_le 256 d) ≡ false) = no-fault (is_opening w) (nat_le 256 d) b f in
         let e' : M.step s w ≡ Some (t, false) = e ∙ ap (λ v. Some (t, v)) n.0 in
-        let m : take (i + 1) words ≡ us ++ w ∷ [] = take_more words i x within in
+        let m : take (i + 1) terminals ≡ us ++ w ∷ [] = take_more terminals i x within in
         record {
           reached = subst (λ v. Reached M v t) (sym m) (reached-more M us s t w kept.reached e');
           deep = ap (λ v. deeper v w) kept.deep ∙ sym (depth-more 0 us w) ∙ ap (depth_from 0) (sym m);
           few = deeper-few d w kept.few n.1;
-          sound = below_more (λ k. (v : Word) → slice_get words k ≡ Some v → Sound M.spell (take k words) v) i kept.sound
-              (λ v g. let h : v ≡ w = same v w (sym g ∙ slice_get-get_or words i x within) in
-              subst (Sound M.spell us) (sym h) (record { begins = begins M us s t w b kept.reached e; shallow = shallow-by us w d kept.deep n.1; small = small M us s t w kept.reached.walked-is e' }));
+          sound = below_more (λ k. (v : Terminal) → slice_get terminals k ≡ Some v → Sound M.spell (take k terminals) v) i kept.sound
+              (λ v g. let h : v ≡ w = same v w (sym g ∙ slice_get-get_or terminals i x within) in
+              subst (Sound M.spell us) (sym h)
+                  (record { begins = begins M us s t w b kept.reached e; shallow = shallow-by us w d kept.deep n.1;
+                  small = small M us s t w kept.reached.walked-is e' }));
         }
 
-    -- a word that passes has no mark
-    pub passes : (t : S) (b : Bool) → M.step s (get_or words i x) ≡ Some (t, b) → fault_of d (get_or words i x) b ≡ None → M.step s (get_or words i x) ≡ Some (t, false)
-    passes t b e f = e ∙ ap (λ v. Some (t, v)) (no-fault (is_opening (get_or words i x)) (nat_le 256 d) b f).0
+    -- a terminal that passes has no mark
+    pub passes : (t : S) (b : Bool) → M.step s (get_or terminals i x) ≡ Some (t, b) → fault_of d (get_or terminals i x) b ≡ None
+        → M.step s (get_or terminals i x) ≡ Some (t, false)
+    passes t b e f = e ∙ ap (λ v. Some (t, v)) (no-fault (is_opening (get_or terminals i x)) (nat_le 256 d) b f).0
 
   -- ---- at the end
 
-  reached-all : (words : List Word) (i : ℕ) (s : S) (d : ℕ) → Kept words i s d → i ≡ length words → Reached M words s
-  reached-all words i s d kept e = subst (λ v. Reached M v s) (ap (λ n. take n words) e ∙ take-length words) kept.reached
+  reached-all : (terminals : List Terminal) (i : ℕ) (s : S) (d : ℕ) → Kept terminals i s d → i ≡ length terminals → Reached M terminals s
+  reached-all terminals i s d kept e = subst (λ v. Reached M v s) (ap (λ n. take n terminals) e ∙ take-length terminals) kept.reached
 
-  pub reads-all : (words : List Word) (i : ℕ) (s : S) (d : ℕ) (v : V) → Kept words i s d → i ≡ length words → M.whole s ≡ Some v → Are M.spell M.value words v
-  reads-all words i s d v kept e p =
-      let h : (t : T) × (M.spell t ≡ clean words []) × (M.value t ≡ v) = whole-text M words s v (reached-all words i s d kept e) p in
+  pub reads-all : (terminals : List Terminal) (i : ℕ) (s : S) (d : ℕ) (v : V) → Kept terminals i s d → i ≡ length terminals
+      → M.whole s ≡ Some v → Are M.spell M.value terminals v
+  reads-all terminals i s d v kept e p =
+      let h : (t : T) × (M.spell t ≡ clean terminals []) × (M.value t ≡ v) =
+          whole-text M terminals s v (reached-all terminals i s d kept e) p in
       record {
         tree = h.0;
         spelled = h.1;
-        shallow = λ k w g. (kept.sound k (omega (arith, get-within words k w g, e)) w g).shallow;
+        shallow = λ k w g. (kept.sound k (omega (arith, get-within terminals k w g, e)) w g).shallow;
         value = h.2;
       }
 
-  pub ends-soon : (words : List Word) (i : ℕ) (s : S) (d : ℕ) → Kept words i s d → i ≡ length words → M.whole s ≡ None → IsFirstFault M.spell words code.Unexpected (length words)
-  ends-soon words i s d kept e p =
-      let r : Reached M words s = reached-all words i s d kept e in
-      (subst (SoundBefore M.spell words) e kept.sound, inl (refl, no-text M words s r.walked-is p))
+  pub ends-soon : (terminals : List Terminal) (i : ℕ) (s : S) (d : ℕ) → Kept terminals i s d → i ≡ length terminals → M.whole s ≡ None
+      → IsFirstFault M.spell terminals code.Unexpected (length terminals)
+  ends-soon terminals i s d kept e p =
+      let r : Reached M terminals s = reached-all terminals i s d kept e in
+      (subst (SoundBefore M.spell terminals) e kept.sound, inl (refl, no-text M terminals s r.walked-is p))

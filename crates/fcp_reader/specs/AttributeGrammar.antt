@@ -1,13 +1,13 @@
--- Believed: the grammar of attributes. `open_at` and the like are places of words, and `vars` is the number that the last
--- word has.
+-- Believed: the grammar of attributes. `open_at` and the like are places of terminals, and `vars` is the number that the last
+-- terminal has.
 use Rattle.std.specs.Prelude.{◌≡◌, ℕ, ℤ, List, [], ◌∷◌, ◌++◌, Bool, true, false}
 use Rattle.fcp_model.specs.declared.names.Sym.{Sym}
 use Rattle.fcp_model.specs.declared.source.Export.{Export}
 use Rattle.fcp_model.specs.declared.term.ArithOp.TheVariants.{Sub, Div}
-use Rattle.fcp_grammar.specs.declared.words.StringForm.{StringForm}
-use Rattle.fcp_grammar.specs.declared.words.StringForm.TheVariants as F
-use Rattle.fcp_grammar.specs.declared.words.Word.{Word}
-use Rattle.fcp_grammar.specs.declared.words.Word.TheVariants as W
+use Rattle.fcp_grammar.specs.declared.terminals.StringForm.{StringForm}
+use Rattle.fcp_grammar.specs.declared.terminals.StringForm.TheVariants as F
+use Rattle.fcp_grammar.specs.declared.terminals.Terminal.{Terminal}
+use Rattle.fcp_grammar.specs.declared.terminals.Terminal.TheVariants as terminal
 use Rattle.fcp_reader.specs.declared.attributes.Said.{Said}
 use Rattle.fcp_reader.specs.declared.attributes.Said.TheVariants as Says
 use Rattle.fcp_grammar.specs.Grammar.{Marked, plain}
@@ -23,9 +23,10 @@ pub data SpecTree : Type 0 where
 abbrev pub spec_value : SpecTree → Export
 spec_value (spec s form at d n i) = export_of at s n
 
--- its words, and then the rest
+-- its terminals, and then the rest
 abbrev pub spell_spec : SpecTree → List Marked → List Marked
-spell_spec (spec s form at d n i) rest = plain (W.Str s form at) ∷ plain (W.Operator Div d) ∷ (W.Int n i, is_no_arity n) ∷ rest
+spell_spec (spec s form at d n i) rest =
+    plain (terminal.Str s form at) ∷ plain (terminal.Operator Div d) ∷ (terminal.Int n i, is_no_arity n) ∷ rest
 
 -- elements with a comma behind each
 pub data SpecTrees : Type 0 where
@@ -37,10 +38,10 @@ abbrev pub spec_values : SpecTrees → List Export
 spec_values no_specs = []
 spec_values (and_spec es e) = spec_values es ++ spec_value e ∷ []
 
--- their words, and then the rest
+-- their terminals, and then the rest
 abbrev pub spell_specs : SpecTrees → List Marked → List Marked
 spell_specs no_specs rest = rest
-spell_specs (and_spec es e) rest = spell_specs es (spell_spec e (plain W.Comma ∷ rest))
+spell_specs (and_spec es e) rest = spell_specs es (spell_spec e (plain terminal.Comma ∷ rest))
 
 -- what stands between the brackets
 pub data Listing : Type 0 where
@@ -52,22 +53,22 @@ abbrev pub listing_value : Listing → List Export
 listing_value nothing_listed = []
 listing_value (listing es e) = spec_values es ++ spec_value e ∷ []
 
--- its words, and then the rest
+-- its terminals, and then the rest
 abbrev pub spell_listing : Listing → List Marked → List Marked
 spell_listing nothing_listed rest = rest
 spell_listing (listing es e) rest = spell_specs es (spell_spec e rest)
 
 -- ---- attributes
 
--- the `-` and the word behind it, each with its place
+-- the `-` and the terminal behind it, each with its place
 pub record Opening : Type 0 where
   pub dash : ℕ
-  pub word : Sym
+  pub name : Sym
   pub at : ℕ
 
--- the two words, where the second has this form
+-- the two terminals, where the second has this form
 abbrev pub spell_opening : Opening → StringForm → List Marked → List Marked
-spell_opening o form rest = plain (W.Operator Sub o.dash) ∷ plain (W.Str o.word form o.at) ∷ rest
+spell_opening o form rest = plain (terminal.Operator Sub o.dash) ∷ plain (terminal.Str o.name form o.at) ∷ rest
 
 -- the forms of a name that is neither `module` nor `export`
 pub data OtherForm : Type 0 where
@@ -79,26 +80,26 @@ abbrev pub form_of : OtherForm → StringForm
 form_of any_name = F.Name
 form_of mod_name = F.Mod
 
--- the word that ends an attribute
-abbrev pub is_dot : Word → Bool
-is_dot (W.Dot n) = true
+-- the terminal that ends an attribute
+abbrev pub is_dot : Terminal → Bool
+is_dot (terminal.Dot n) = true
 is_dot _ = false
 
--- any words but `.`
-pub data AnyWords : Type 0 where
-  no_words : AnyWords
-  and_word : (front : AnyWords) (w : Word) → is_dot w ≡ false → AnyWords
+-- any terminals but `.`
+pub data AnyTerminals : Type 0 where
+  no_terminals : AnyTerminals
+  and_terminal : (front : AnyTerminals) (w : Terminal) → is_dot w ≡ false → AnyTerminals
 
--- no word of an unknown attribute is one too many
-abbrev pub spell_any : AnyWords → List Marked → List Marked
-spell_any no_words rest = rest
-spell_any (and_word ws w h) rest = spell_any ws (plain w ∷ rest)
+-- no terminal of an unknown attribute is one too many
+abbrev pub spell_any : AnyTerminals → List Marked → List Marked
+spell_any no_terminals rest = rest
+spell_any (and_terminal ws w h) rest = spell_any ws (plain w ∷ rest)
 
 -- a `-module` with a string, an `-export` with a list, or any other
 pub data AttributeTree : Type 0 where
   module_name : (o : Opening) (open_at : ℕ) (s : Sym) (form : StringForm) (at : ℕ) (vars : ℕ) → AttributeTree
   export_list : (o : Opening) (open_at : ℕ) (square_at : ℕ) (es : Listing) (vars : ℕ) → AttributeTree
-  unknown : (o : Opening) (form : OtherForm) (ws : AnyWords) (vars : ℕ) → AttributeTree
+  unknown : (o : Opening) (form : OtherForm) (ws : AnyTerminals) (vars : ℕ) → AttributeTree
 
 -- the place of the `-`
 abbrev pub dash_of : AttributeTree → ℕ
@@ -112,8 +113,12 @@ said_of (module_name o b s form at n) = Says.Name s
 said_of (export_list o b q es n) = Says.List (listing_value es)
 said_of (unknown o form ws n) = Says.Unknown
 
--- its words, and then the rest
+-- its terminals, and then the rest
 abbrev pub spell_attribute : AttributeTree → List Marked → List Marked
-spell_attribute (module_name o b s form at n) rest = spell_opening o F.Module (plain (W.RoundOpen b) ∷ plain (W.Str s form at) ∷ plain W.RoundClose ∷ plain (W.Dot n) ∷ rest)
-spell_attribute (export_list o b q es n) rest = spell_opening o F.Export (plain (W.RoundOpen b) ∷ plain (W.SquareOpen q) ∷ spell_listing es (plain W.SquareClose ∷ plain W.RoundClose ∷ plain (W.Dot n) ∷ rest))
-spell_attribute (unknown o form ws n) rest = spell_opening o (form_of form) (spell_any ws (plain (W.Dot n) ∷ rest))
+spell_attribute (module_name o b s form at n) rest =
+    spell_opening o F.Module (plain (terminal.RoundOpen b) ∷ plain (terminal.Str s form at) ∷ plain terminal.RoundClose
+    ∷ plain (terminal.Dot n) ∷ rest)
+spell_attribute (export_list o b q es n) rest =
+    spell_opening o F.Export (plain (terminal.RoundOpen b) ∷ plain (terminal.SquareOpen q)
+    ∷ spell_listing es (plain terminal.SquareClose ∷ plain terminal.RoundClose ∷ plain (terminal.Dot n) ∷ rest))
+spell_attribute (unknown o form ws n) rest = spell_opening o (form_of form) (spell_any ws (plain (terminal.Dot n) ∷ rest))

@@ -31,5 +31,6 @@ FaultIsNoGoal = (names : List Text) (z : Text) (g : GoalText) (a : Fault) → Is
 -- a module or a goal that a text is keeps the limits of arguments, parts, variables and items, and a module has at most as
 -- many clauses as its text has bytes
 abbrev pub TextsKeepLimits : Type 0
-TextsKeepLimits = ((names : List Text) (z : Text) (m : Module) → IsModule names z m → (is_module_within m ≡ true) × (length m.clauses ≤ length z))
+TextsKeepLimits =
+    ((names : List Text) (z : Text) (m : Module) → IsModule names z m → (is_module_within m ≡ true) × (length m.clauses ≤ length z))
     × ((names : List Text) (z : Text) (g : GoalText) → IsGoal names z g → is_goal_within g ≡ true)

@@ -18,12 +18,12 @@ module_value empty = nothing
 module_value (and_clause m c) = with_clause (module_value m) (clause_value c)
 module_value (and_attribute m a) = with_said (module_value m) (dash_of a) (said_of a)
 
--- its words, and then the rest
+-- its terminals, and then the rest
 abbrev pub spell_module : ModuleTree → List Marked → List Marked
 spell_module empty rest = rest
 spell_module (and_clause m c) rest = spell_module m (spell_clause c rest)
 spell_module (and_attribute m a) rest = spell_module m (spell_attribute a rest)
 
--- the words of a whole text
+-- the terminals of a whole text
 abbrev pub spell_module_text : ModuleTree → List Marked
 spell_module_text m = spell_module m []

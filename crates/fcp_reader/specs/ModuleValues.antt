@@ -8,11 +8,12 @@ use Rattle.fcp_model.specs.declared.source.Item.{Item}
 use Rattle.fcp_model.specs.declared.source.Module.{Module}
 use Rattle.fcp_reader.specs.declared.attributes.Said.{Said}
 use Rattle.fcp_reader.specs.declared.attributes.Said.TheVariants as Says
-use Rattle.fcp_reader.specs.declared.clauses.Head.{Head}
+use Rattle.fcp_reader.specs.declared.state.Head.{Head}
+use Rattle.fcp_grammar.specs.Limits.{most_arguments}
 
 -- no procedure has so many arguments
 abbrev pub is_no_arity : ℤ → Bool
-is_no_arity n = int_lt n (pos 0) || int_lt (pos 64) n
+is_no_arity n = int_lt n (pos 0) || int_lt (pos most_arguments) n
 
 -- the number of arguments, or 0 where it is none
 abbrev pub arity_of : ℤ → ℕ
@@ -22,7 +23,7 @@ arity_of n = if is_no_arity n then 0 else unsigned_abs n
 abbrev pub export_of : ℕ → Sym → ℤ → Export
 export_of at s n = record { at = at; name = s; arity = arity_of n }
 
--- the module of no words
+-- the module of no terminals
 abbrev pub nothing : Module
 nothing = record { name = None; again = None; other = None; exports = None; clauses = [] }
 

@@ -9,42 +9,43 @@ use Rattle.fcp_model.specs.declared.source.GoalText.{GoalText}
 use Rattle.fcp_text.specs.declared.lexer.Token.{Token}
 use Rattle.fcp_text.specs.Bytes.{Text}
 use Rattle.fcp_text.specs.Tokens.{tokens_of}
-use Rattle.fcp_grammar.specs.declared.words.Word.{Word}
+use Rattle.fcp_grammar.specs.declared.terminals.Terminal.{Terminal}
 use Rattle.fcp_grammar.specs.Grammar.{Marked}
-use Rattle.fcp_words.specs.declared.variables.Form.{Form}
-use Rattle.fcp_words.specs.declared.variables.Form.TheVariants as form
-use Rattle.fcp_words.specs.Lexemes.{lexemes, place_at}
-use Rattle.fcp_words.specs.Numbering.{Env, env, words_from, env_from, Grows}
+use Rattle.fcp_terminals.specs.declared.variables.Form.{Form}
+use Rattle.fcp_terminals.specs.declared.variables.Form.TheVariants as form
+use Rattle.fcp_terminals.specs.Lexemes.{lexemes, place_at}
+use Rattle.fcp_terminals.specs.Numbering.{Env, env, terminals_from, env_from, Grows}
 use Rattle.fcp_reader.specs.GoalGrammar.{spell_goal_text}
 use Rattle.fcp_reader.specs.ModuleGrammar.{spell_module_text}
 use Rattle.fcp_reader.specs.Texts.{AreModule, AreGoal}
 use Rattle.fcp_reader.specs.TokenFaults.{IsFirst}
 
--- the words of a text with these tokens, and what is numbered behind it
-abbrev pub words_of : Form → List Text → Text → List Token → List Word
-words_of f names z ts = words_from f (env names []) (lexemes z ts)
+-- the terminals of a text with these tokens, and what is numbered behind it
+abbrev pub terminals_of : Form → List Text → Text → List Token → List Terminal
+terminals_of f names z ts = terminals_from f (env names []) (lexemes z ts)
 
 -- what is numbered behind a text with these tokens
 abbrev pub behind : Form → List Text → Text → List Token → Env
 behind f names z ts = env_from f (env names []) (lexemes z ts)
 
--- the text's words are a module
+-- the text's terminals are a module
 pub record IsModule (names : List Text) (z : Text) (m : Module) : Type 0 where
   pub tokens : List Token
   pub cut : tokens_of z ≡ Ok tokens
-  pub is : AreModule (words_of form.Module names z tokens) m
+  pub is : AreModule (terminals_of form.Module names z tokens) m
 
--- the text's words are the items of a goal, and its variables have these names
+-- the text's terminals are the items of a goal, and its variables have these names
 pub record IsGoal (names : List Text) (z : Text) (g : GoalText) : Type 0 where
   pub tokens : List Token
   pub cut : tokens_of z ≡ Ok tokens
-  pub is : AreGoal (words_of form.Goal names z tokens) g.items
+  pub is : AreGoal (terminals_of form.Goal names z tokens) g.items
   pub variables : g.names ≡ map (λ v. v.name) (behind form.Goal names z tokens).variables
 
 -- the text's first fault is one of its tokens, or else one by the grammar, at the place of a token or at the text's length
 pub data HasFault {T : Type 0} (spell : T → List Marked) (f : Form) (names : List Text) (z : Text) (fault : Fault) : Type 0 where
   of_tokens : tokens_of z ≡ Err fault → HasFault spell f names z fault
-  of_grammar : (tokens : List Token) (n : ℕ) → tokens_of z ≡ Ok tokens → fault.at ≡ place_at z tokens n → IsFirst spell f (env names []) (lexemes z tokens) fault.code n → HasFault spell f names z fault
+  of_grammar : (tokens : List Token) (n : ℕ) → tokens_of z ≡ Ok tokens → fault.at ≡ place_at z tokens n
+      → IsFirst spell f (env names []) (lexemes z tokens) fault.code n → HasFault spell f names z fault
 
 -- the first fault of a text as a module
 abbrev pub IsModuleFault : List Text → Text → Fault → Type 0

@@ -1,9 +1,9 @@
-//! Reading an attribute, one word after another.
+//! Reading an attribute, one terminal after another.
 ghost use Rattle.std.specs.Prelude.{◌≡◌, ◌∷◌, ◌++◌, [], IfOk};
 ghost use Rattle.fcp_reader.specs.Attributes as spec;
 ghost use Rattle.fcp_reader.specs.ModuleValues as values;
 
-use fcp_grammar::{StringForm, Word};
+use fcp_grammar::{MOST_ARGUMENTS, StringForm, Terminal};
 use fcp_model::{ArithOp, Export, NoMemory, Seq, Sym};
 use std::alloc::Global;
 
@@ -58,23 +58,21 @@ pub enum Said {
     Unknown,
 }
 
-/// What a word is to an attribute.
+/// What a terminal is to an attribute.
 #[derive(Drop)]
-pub enum AttributeTurn {
-    /// It goes on; the flag says that the word is one too many.
+pub enum AttributeStep {
+    /// It goes on; the flag says that the terminal is one too many.
     Goes(AttributeAt, bool),
     /// The attribute ends with it.
     Ends(Said),
     Refused,
 }
 
-const MOST_ARGUMENTS: i64 = 64;
-
 /// No procedure has so many arguments.
 fn is_no_arity(number: i64) -> bool
     ensures { result ≡ values.is_no_arity number }
 {
-    number < 0 || number > MOST_ARGUMENTS
+    number < 0 || number > MOST_ARGUMENTS as i64
 }
 
 /// The number of arguments, or 0 where it is none.
@@ -92,137 +90,149 @@ fn arity_of(number: i64) -> u32
 fn with_export(done: Seq<Export>, at: u32, name: Sym, number: i64) -> Result<Seq<Export>, NoMemory>
     ensures { IfOk result (λ v. v ≡ done ++ values.export_of at name number ∷ []) }
 {
-    let mut done = done;
-    let arity = arity_of(number);
-    match done.push(Export { at, name, arity }) {
-        Ok(()) => Ok(done),
-        Err(_) => Err(NoMemory),
-    }
+    done.with(Export {
+        at,
+        name,
+        arity: arity_of(number),
+    })
 }
 
-/// One more word of a `-module`.
+/// One more terminal of a `-module`.
 #[tactic(auto, unfolding(crate::specs::Attributes::step_name))]
-fn step_name(at: NameAt, word: Word) -> AttributeTurn
-    ensures { result ≡ spec.step_name at word }
+fn step_name(at: NameAt, terminal: Terminal) -> AttributeStep
+    ensures { result ≡ spec.step_name at terminal }
 {
     let next = match at {
-        NameAt::Open => match word {
-            Word::RoundOpen(_) => NameAt::Name,
-            _ => return AttributeTurn::Refused,
+        NameAt::Open => match terminal {
+            Terminal::RoundOpen(_) => NameAt::Name,
+            _ => return AttributeStep::Refused,
         },
-        NameAt::Name => match word {
-            Word::Str(name, _, _) => NameAt::Close(name),
-            _ => return AttributeTurn::Refused,
+        NameAt::Name => match terminal {
+            Terminal::Str(name, _, _) => NameAt::Close(name),
+            _ => return AttributeStep::Refused,
         },
-        NameAt::Close(name) => match word {
-            Word::RoundClose => NameAt::End(name),
-            _ => return AttributeTurn::Refused,
+        NameAt::Close(name) => match terminal {
+            Terminal::RoundClose => NameAt::End(name),
+            _ => return AttributeStep::Refused,
         },
-        NameAt::End(name) => match word {
-            Word::Dot(_) => return AttributeTurn::Ends(Said::Name(name)),
-            _ => return AttributeTurn::Refused,
+        NameAt::End(name) => match terminal {
+            Terminal::Dot(_) => return AttributeStep::Ends(Said::Name(name)),
+            _ => return AttributeStep::Refused,
         },
     };
-    AttributeTurn::Goes(AttributeAt::Name(next), false)
+    AttributeStep::Goes(AttributeAt::Name(next), false)
 }
 
-fn goes(next: ListAt) -> AttributeTurn
+fn goes(next: ListAt) -> AttributeStep
     ensures { result ≡ spec.lists next }
 {
-    AttributeTurn::Goes(AttributeAt::List(next), false)
+    AttributeStep::Goes(AttributeAt::List(next), false)
 }
 
-/// One more word behind an element of an `-export`.
-fn behind_export(done: Seq<Export>, word: Word) -> AttributeTurn
-    ensures { result ≡ spec.behind_export done word }
+/// One more terminal behind an element of an `-export`.
+fn behind_export(done: Seq<Export>, terminal: Terminal) -> AttributeStep
+    ensures { result ≡ spec.behind_export done terminal }
 {
-    match word {
-        Word::Comma => goes(ListAt::Next(done)),
-        Word::SquareClose => goes(ListAt::Close(done)),
-        _ => AttributeTurn::Refused,
+    match terminal {
+        Terminal::Comma => goes(ListAt::Next(done)),
+        Terminal::SquareClose => goes(ListAt::Close(done)),
+        _ => AttributeStep::Refused,
     }
 }
 
 /// The number of an element.
-fn step_arity(done: Seq<Export>, at: u32, name: Sym, word: Word) -> Result<AttributeTurn, NoMemory>
-    ensures { IfOk result (λ r. r ≡ spec.step_arity done at name word) }
+fn step_arity(
+    done: Seq<Export>,
+    at: u32,
+    name: Sym,
+    terminal: Terminal,
+) -> Result<AttributeStep, NoMemory>
+    ensures { IfOk result (λ r. r ≡ spec.step_arity done at name terminal) }
 {
-    match word {
-        Word::Int(number, _) => {
+    match terminal {
+        Terminal::Int(number, _) => {
             let next = ListAt::More(with_export(done, at, name, number)?);
-            Ok(AttributeTurn::Goes(AttributeAt::List(next), is_no_arity(number)))
+            Ok(AttributeStep::Goes(AttributeAt::List(next), is_no_arity(number)))
         }
-        _ => Ok(AttributeTurn::Refused),
+        _ => Ok(AttributeStep::Refused),
     }
 }
 
-/// One more word of an `-export`.
+/// One more terminal of an `-export`.
 #[tactic(auto, unfolding(crate::specs::Attributes::step_list))]
-fn step_list(alloc: Global, at: ListAt, word: Word) -> Result<AttributeTurn, NoMemory>
-    ensures { IfOk result (λ r. r ≡ spec.step_list at word) }
+fn step_list(alloc: Global, at: ListAt, terminal: Terminal) -> Result<AttributeStep, NoMemory>
+    ensures { IfOk result (λ r. r ≡ spec.step_list at terminal) }
 {
     match at {
-        ListAt::Arity(done, place, name) => step_arity(done, place, name, word),
-        ListAt::More(done) => Ok(behind_export(done, word)),
-        ListAt::Open => match word {
-            Word::RoundOpen(_) => Ok(goes(ListAt::Square)),
-            _ => Ok(AttributeTurn::Refused),
+        ListAt::Arity(done, place, name) => step_arity(done, place, name, terminal),
+        ListAt::More(done) => Ok(behind_export(done, terminal)),
+        ListAt::Open => match terminal {
+            Terminal::RoundOpen(_) => Ok(goes(ListAt::Square)),
+            _ => Ok(AttributeStep::Refused),
         },
-        ListAt::Square => match word {
-            Word::SquareOpen(_) => Ok(goes(ListAt::First)),
-            _ => Ok(AttributeTurn::Refused),
+        ListAt::Square => match terminal {
+            Terminal::SquareOpen(_) => Ok(goes(ListAt::First)),
+            _ => Ok(AttributeStep::Refused),
         },
-        ListAt::First => match word {
-            Word::Str(name, _, place) => Ok(goes(ListAt::Slash(Seq::empty(alloc), place, name))),
-            Word::SquareClose => Ok(goes(ListAt::Close(Seq::empty(alloc)))),
-            _ => Ok(AttributeTurn::Refused),
+        ListAt::First => match terminal {
+            Terminal::Str(name, _, place) => Ok(goes(ListAt::Slash(
+                Seq::empty(alloc),
+                place,
+                name,
+            ))),
+            Terminal::SquareClose => Ok(goes(ListAt::Close(Seq::empty(alloc)))),
+            _ => Ok(AttributeStep::Refused),
         },
-        ListAt::Next(done) => match word {
-            Word::Str(name, _, place) => Ok(goes(ListAt::Slash(done, place, name))),
-            _ => Ok(AttributeTurn::Refused),
+        ListAt::Next(done) => match terminal {
+            Terminal::Str(name, _, place) => Ok(goes(ListAt::Slash(done, place, name))),
+            _ => Ok(AttributeStep::Refused),
         },
-        ListAt::Slash(done, place, name) => match word {
-            Word::Operator(ArithOp::Div, _) => Ok(goes(ListAt::Arity(done, place, name))),
-            _ => Ok(AttributeTurn::Refused),
+        ListAt::Slash(done, place, name) => match terminal {
+            Terminal::Operator(ArithOp::Div, _) => Ok(goes(ListAt::Arity(done, place, name))),
+            _ => Ok(AttributeStep::Refused),
         },
-        ListAt::Close(done) => match word {
-            Word::RoundClose => Ok(goes(ListAt::End(done))),
-            _ => Ok(AttributeTurn::Refused),
+        ListAt::Close(done) => match terminal {
+            Terminal::RoundClose => Ok(goes(ListAt::End(done))),
+            _ => Ok(AttributeStep::Refused),
         },
-        ListAt::End(done) => match word {
-            Word::Dot(_) => Ok(AttributeTurn::Ends(Said::List(done))),
-            _ => Ok(AttributeTurn::Refused),
+        ListAt::End(done) => match terminal {
+            Terminal::Dot(_) => Ok(AttributeStep::Ends(Said::List(done))),
+            _ => Ok(AttributeStep::Refused),
         },
     }
 }
 
-/// The word behind the `-`, which says what attribute it is.
-fn step_dash(word: Word) -> AttributeTurn
-    ensures { result ≡ spec.step_dash word }
+/// The terminal behind the `-`, which says what attribute it is.
+fn step_dash(terminal: Terminal) -> AttributeStep
+    ensures { result ≡ spec.step_dash terminal }
 {
-    match word {
-        Word::Str(_, form, _) => match form {
-            StringForm::Module => AttributeTurn::Goes(AttributeAt::Name(NameAt::Open), false),
-            StringForm::Export => AttributeTurn::Goes(AttributeAt::List(ListAt::Open), false),
-            StringForm::Name | StringForm::Mod => AttributeTurn::Goes(AttributeAt::Unknown, false),
-            StringForm::Quoted => AttributeTurn::Refused,
+    match terminal {
+        Terminal::Str(_, form, _) => match form {
+            StringForm::Module => AttributeStep::Goes(AttributeAt::Name(NameAt::Open), false),
+            StringForm::Export => AttributeStep::Goes(AttributeAt::List(ListAt::Open), false),
+            StringForm::Name | StringForm::Mod => AttributeStep::Goes(AttributeAt::Unknown, false),
+            StringForm::Quoted => AttributeStep::Refused,
         },
-        _ => AttributeTurn::Refused,
+        _ => AttributeStep::Refused,
     }
 }
 
-/// One more word of an attribute.
+/// One more terminal of an attribute.
 #[tactic(auto, unfolding(crate::specs::Attributes::step_attribute))]
-pub fn step_attribute(alloc: Global, at: AttributeAt, word: Word) -> Result<AttributeTurn, NoMemory>
-    ensures { IfOk result (λ r. r ≡ spec.step_attribute at word) }
+pub fn step_attribute(
+    alloc: Global,
+    at: AttributeAt,
+    terminal: Terminal,
+) -> Result<AttributeStep, NoMemory>
+    ensures { IfOk result (λ r. r ≡ spec.step_attribute at terminal) }
 {
     match at {
-        AttributeAt::Dash => Ok(step_dash(word)),
-        AttributeAt::Name(at) => Ok(step_name(at, word)),
-        AttributeAt::List(at) => step_list(alloc, at, word),
-        AttributeAt::Unknown => match word {
-            Word::Dot(_) => Ok(AttributeTurn::Ends(Said::Unknown)),
-            _ => Ok(AttributeTurn::Goes(AttributeAt::Unknown, false)),
+        AttributeAt::Dash => Ok(step_dash(terminal)),
+        AttributeAt::Name(at) => Ok(step_name(at, terminal)),
+        AttributeAt::List(at) => step_list(alloc, at, terminal),
+        AttributeAt::Unknown => match terminal {
+            Terminal::Dot(_) => Ok(AttributeStep::Ends(Said::Unknown)),
+            _ => Ok(AttributeStep::Goes(AttributeAt::Unknown, false)),
         },
     }
 }

@@ -26,10 +26,10 @@ pub fn fault_is_no_goal()
     ensures { FaultIsNoGoal }
 {}
 
-/// A module or a goal that a text is keeps the limits of arguments, parts, variables and items. Each clause and each goal has at most 250 variables, and
-/// each occurrence of a variable has the number of one of them. Each head and each call has at most 64 arguments, each tuple at
-/// most 65 parts, and each guard, each body and each goal at most 256 items. A module has at most as many clauses as its text
-/// has bytes.
+/// A module or a goal that a text is keeps the limits of arguments, parts, variables and items. Each clause and each goal has
+/// at most `MOST_VARIABLES` variables, and each occurrence of a variable has the number of one of them. Each head and each
+/// call has at most `MOST_ARGUMENTS` arguments, each tuple at most one part more, and each guard, each body and each goal at
+/// most `MOST_ITEMS` items. A module has at most as many clauses as its text has bytes.
 pub fn texts_keep_limits()
     ensures { TextsKeepLimits }
 {}

@@ -8,10 +8,12 @@ mod laws;
 mod modules;
 mod reading;
 mod sources;
+mod state;
 #[cfg(test)]
 mod tests;
 
 pub use laws::{
     fault_is_no_goal, fault_is_no_module, one_fault, one_goal, one_module, texts_keep_limits,
 };
+pub use reading::MOST_OPEN;
 pub use sources::{read_goal, read_module};

@@ -1,17 +1,18 @@
-//! Reading a module's words.
+//! Reading a module's terminals.
 ghost use Rattle.std.specs.Prelude.{◌≡◌, ◌++◌, [], IfOk};
 ghost use Rattle.fcp_reader.specs.ModuleValues as values;
 ghost use Rattle.fcp_reader.specs.Modules as spec;
 ghost use Rattle.fcp_reader.specs.Texts.{ReadsModule};
 
-use crate::attributes::{AttributeAt, AttributeTurn, Said, step_attribute};
-use crate::clauses::{Head, Part, State, behind_head, in_args, in_body};
+use crate::attributes::{AttributeAt, AttributeStep, Said, step_attribute};
+use crate::clauses::{behind_head, in_args, in_body};
 use crate::reading::{Stopped, deeper, fault_of};
-use fcp_grammar::{Word, start};
+use crate::state::{Head, Part, State};
+use fcp_grammar::{Terminal, start};
 use fcp_model::{ArithOp, Code, Export, Module, NoMemory, Seq, Sym};
 use std::alloc::Global;
 
-/// The module of no words.
+/// The module of no terminals.
 fn nothing(alloc: Global) -> Module
     ensures { result ≡ values.nothing }
 {
@@ -94,95 +95,95 @@ fn with_said(alloc: Global, read: Module, dash: u32, said: Said) -> Result<Modul
     }
 }
 
-/// One more word of an attribute.
+/// One more terminal of an attribute.
 #[tactic(auto, unfolding(crate::specs::Modules::in_attribute))]
 fn in_attribute(
     alloc: Global,
     read: Module,
     dash: u32,
     at: AttributeAt,
-    word: Word,
+    terminal: Terminal,
 ) -> Result<Option<(State, bool)>, NoMemory>
-    ensures { IfOk result (λ r. r ≡ spec.in_attribute read dash at word) }
+    ensures { IfOk result (λ r. r ≡ spec.in_attribute read dash at terminal) }
 {
-    match step_attribute(alloc, at, word)? {
-        AttributeTurn::Goes(next, large) => {
+    match step_attribute(alloc, at, terminal)? {
+        AttributeStep::Goes(next, large) => {
             let part = Part::Attribute(dash, next);
             Ok(Some((State { read, part }, large)))
         }
-        AttributeTurn::Ends(said) => {
+        AttributeStep::Ends(said) => {
             let read = with_said(alloc, read, dash, said)?;
             let part = Part::Between;
             Ok(Some((State { read, part }, false)))
         }
-        AttributeTurn::Refused => Ok(None),
+        AttributeStep::Refused => Ok(None),
     }
 }
 
-/// The first word of a clause or an attribute.
-fn between(read: Module, word: Word) -> Option<(State, bool)>
-    ensures { result ≡ spec.between read word }
+/// The first terminal of a clause or an attribute.
+fn between(read: Module, terminal: Terminal) -> Option<(State, bool)>
+    ensures { result ≡ spec.between read terminal }
 {
-    let part = match word {
-        Word::Str(name, _, at) => Part::Named(at, name),
-        Word::Operator(ArithOp::Sub, at) => Part::Attribute(at, AttributeAt::Dash),
+    let part = match terminal {
+        Terminal::Str(name, _, at) => Part::Named(at, name),
+        Terminal::Operator(ArithOp::Sub, at) => Part::Attribute(at, AttributeAt::Dash),
         _ => return None,
     };
     Some((State { read, part }, false))
 }
 
-/// One more word, and whether it is one too many. None where it goes on no text.
+/// One more terminal, and whether it is one too many. None where it goes on no text.
 #[tactic(auto, unfolding(crate::specs::Modules::step))]
-fn step(alloc: Global, state: State, word: Word) -> Result<Option<(State, bool)>, NoMemory>
-    ensures { IfOk result (λ r. r ≡ spec.step state word) }
+fn step(alloc: Global, state: State, terminal: Terminal) -> Result<Option<(State, bool)>, NoMemory>
+    ensures { IfOk result (λ r. r ≡ spec.step state terminal) }
 {
     let State { read, part } = state;
     match part {
-        Part::Between => Ok(between(read, word)),
-        Part::Attribute(dash, at) => in_attribute(alloc, read, dash, at, word),
-        Part::Named(at, name) => match word {
-            Word::RoundOpen(_) => {
+        Part::Between => Ok(between(read, terminal)),
+        Part::Attribute(dash, at) => in_attribute(alloc, read, dash, at, terminal),
+        Part::Named(at, name) => match terminal {
+            Terminal::RoundOpen(_) => {
                 let part = Part::Args(at, name, Seq::empty(alloc), start(alloc));
                 Ok(Some((State { read, part }, false)))
             }
             _ => {
                 let args = Seq::empty(alloc);
-                behind_head(alloc, read, Head { at, name, args }, word)
+                behind_head(alloc, read, Head { at, name, args }, terminal)
             }
         },
-        Part::Args(place, name, done, at) => in_args(alloc, read, place, name, done, at, word),
-        Part::Called(head) => behind_head(alloc, read, head, word),
+        Part::Args(place, name, done, at) => in_args(alloc, read, place, name, done, at, terminal),
+        Part::Called(head) => behind_head(alloc, read, head, terminal),
         Part::Body(head, guard, items, side) => in_body(
-            alloc, read, head, guard, items, side, word,
+            alloc, read, head, guard, items, side, terminal,
         ),
     }
 }
 
-/// The module that the words are, or the first fault.
-pub fn module_of(alloc: Global, words: &[Word]) -> Result<Module, Stopped>
-    ensures { ReadsModule words.now result }
+/// The module that the terminals are, or the first fault.
+pub fn module_of(alloc: Global, terminals: &[Terminal]) -> Result<Module, Stopped>
+    ensures { ReadsModule terminals.now result }
 {
     let mut depth: usize = 0;
     let mut state = State {
         read: nothing(alloc),
         part: Part::Between,
     };
-    for (i, word) in words.iter().enumerate() {
-        let Ok(next) = step(alloc, state, *word) else {
+    for (i, terminal) in terminals.iter().enumerate() {
+        let Ok(next) = step(alloc, state, *terminal) else {
             return Err(Stopped::NoMemory);
         };
         let Some((next, large)) = next else {
             return Err(Stopped::Fault(Code::Unexpected, i));
         };
-        if let Some(code) = fault_of(depth, *word, large) {
+        if let Some(code) = fault_of(depth, *terminal, large) {
             return Err(Stopped::Fault(code, i));
         }
-        depth = deeper(depth, *word);
+        depth = deeper(depth, *terminal);
         state = next;
     }
     let State { read, part } = state;
     match part {
         Part::Between => Ok(read),
-        _ => Err(Stopped::Fault(Code::Unexpected, words.len())),
+        _ => Err(Stopped::Fault(Code::Unexpected, terminals.len())),
     }
 }

@@ -2,49 +2,49 @@ use crate::goals::goal_items_of;
 use crate::modules::module_of;
 use crate::reading::Stopped;
 use crate::{read_goal, read_module};
-use fcp_grammar::{StringForm, Word};
+use fcp_grammar::{StringForm, Terminal};
 use fcp_model::{ArithOp, Code, CompareOp, Fault, Module, Names, Refused, Sym};
 use std::alloc::Global;
 use std::fmt::Write;
 use std::test::Fail;
 
-const DASH: Word = Word::Operator(ArithOp::Sub, 7);
+const DASH: Terminal = Terminal::Operator(ArithOp::Sub, 7);
 
-const SLASH: Word = Word::Operator(ArithOp::Div, 8);
+const SLASH: Terminal = Terminal::Operator(ArithOp::Div, 8);
 
-const MODULE: Word = Word::Str(Sym(20), StringForm::Module, 9);
+const MODULE: Terminal = Terminal::Str(Sym(20), StringForm::Module, 9);
 
-const EXPORT: Word = Word::Str(Sym(21), StringForm::Export, 10);
+const EXPORT: Terminal = Terminal::Str(Sym(21), StringForm::Export, 10);
 
-const OPEN: Word = Word::RoundOpen(11);
+const OPEN: Terminal = Terminal::RoundOpen(11);
 
-const CLOSE: Word = Word::RoundClose;
+const CLOSE: Terminal = Terminal::RoundClose;
 
-const P: Word = Word::Str(Sym(30), StringForm::Name, 12);
+const P: Terminal = Terminal::Str(Sym(30), StringForm::Name, 12);
 
-const Q: Word = Word::Str(Sym(31), StringForm::Quoted, 13);
+const Q: Terminal = Terminal::Str(Sym(31), StringForm::Quoted, 13);
 
-const X: Word = Word::Var(1, 14);
+const X: Terminal = Terminal::Var(1, 14);
 
-const DOT: Word = Word::Dot(1);
+const DOT: Terminal = Terminal::Dot(1);
 
-fn fault_of_module(alloc: Global, words: &[Word]) -> Option<(Code, usize)> {
-    match module_of(alloc, words) {
-        Err(Stopped::Fault(code, word)) => Some((code, word)),
+fn fault_of_module(alloc: Global, terminals: &[Terminal]) -> Option<(Code, usize)> {
+    match module_of(alloc, terminals) {
+        Err(Stopped::Fault(code, terminal)) => Some((code, terminal)),
         _ => None,
     }
 }
 
-fn fault_of_goal(alloc: Global, words: &[Word]) -> Option<(Code, usize)> {
-    match goal_items_of(alloc, words) {
-        Err(Stopped::Fault(code, word)) => Some((code, word)),
+fn fault_of_goal(alloc: Global, terminals: &[Terminal]) -> Option<(Code, usize)> {
+    match goal_items_of(alloc, terminals) {
+        Err(Stopped::Fault(code, terminal)) => Some((code, terminal)),
         _ => None,
     }
 }
 
 #[test]
 fn a_module_is_read(rt: HostRuntime) -> Result<(), Fail> {
-    let words = [
+    let terminals = [
         DASH,
         MODULE,
         OPEN,
@@ -54,22 +54,22 @@ fn a_module_is_read(rt: HostRuntime) -> Result<(), Fail> {
         DASH,
         EXPORT,
         OPEN,
-        Word::SquareOpen(1),
+        Terminal::SquareOpen(1),
         P,
         SLASH,
-        Word::Int(1, 2),
-        Word::SquareClose,
+        Terminal::Int(1, 2),
+        Terminal::SquareClose,
         CLOSE,
         DOT,
         P,
         OPEN,
         X,
         CLOSE,
-        Word::If,
+        Terminal::If,
         X,
-        Word::Compare(CompareOp::Less),
-        Word::Int(3, 4),
-        Word::Bar,
+        Terminal::Compare(CompareOp::Less),
+        Terminal::Int(3, 4),
+        Terminal::Bar,
         Q,
         DOT,
         DASH,
@@ -81,11 +81,11 @@ fn a_module_is_read(rt: HostRuntime) -> Result<(), Fail> {
         DASH,
         EXPORT,
         OPEN,
-        Word::SquareOpen(1),
-        Word::SquareClose,
+        Terminal::SquareOpen(1),
+        Terminal::SquareClose,
         CLOSE,
         DOT,
-        Word::Operator(ArithOp::Sub, 40),
+        Terminal::Operator(ArithOp::Sub, 40),
         MODULE,
         OPEN,
         Q,
@@ -94,7 +94,7 @@ fn a_module_is_read(rt: HostRuntime) -> Result<(), Fail> {
         Q,
         DOT,
     ];
-    let Ok(module) = module_of(rt.alloc(), &words) else {
+    let Ok(module) = module_of(rt.alloc(), &terminals) else {
         assert!(rt; false, "a module is refused");
         return Ok(());
     };
@@ -119,13 +119,13 @@ fn a_module_is_read(rt: HostRuntime) -> Result<(), Fail> {
 
 #[test]
 fn faults_of_modules_are_found(rt: HostRuntime) -> Result<(), Fail> {
-    let rows: [(&[Word], Code, usize); 12] = [
+    let rows: [(&[Terminal], Code, usize); 12] = [
         (&[P], Code::Unexpected, 1),
         (&[DOT], Code::Unexpected, 0),
         (&[P, DOT, DOT], Code::Unexpected, 2),
         (&[P, OPEN, CLOSE], Code::Unexpected, 2),
         (
-            &[P, Word::If, Q, Word::Bar, Q, Word::Bar],
+            &[P, Terminal::If, Q, Terminal::Bar, Q, Terminal::Bar],
             Code::Unexpected,
             5,
         ),
@@ -137,10 +137,10 @@ fn faults_of_modules_are_found(rt: HostRuntime) -> Result<(), Fail> {
                 DASH,
                 EXPORT,
                 OPEN,
-                Word::SquareOpen(1),
+                Terminal::SquareOpen(1),
                 P,
                 SLASH,
-                Word::Int(65, 2),
+                Terminal::Int(65, 2),
             ],
             Code::TooLarge,
             6,
@@ -150,25 +150,29 @@ fn faults_of_modules_are_found(rt: HostRuntime) -> Result<(), Fail> {
                 DASH,
                 EXPORT,
                 OPEN,
-                Word::SquareOpen(1),
+                Terminal::SquareOpen(1),
                 P,
                 SLASH,
-                Word::Int(-1, 2),
+                Terminal::Int(-1, 2),
             ],
             Code::TooLarge,
             6,
         ),
         (
-            &[P, OPEN, Word::Var(251, 1), CLOSE, DOT, DOT],
+            &[P, OPEN, Terminal::Var(251, 1), CLOSE, DOT, DOT],
             Code::TooLarge,
             2,
         ),
-        (&[DASH, P, Word::Var(251, 1), DOT, DOT], Code::Unexpected, 4),
+        (
+            &[DASH, P, Terminal::Var(251, 1), DOT, DOT],
+            Code::Unexpected,
+            4,
+        ),
     ];
-    for (words, code, word) in rows {
+    for (terminals, code, terminal) in rows {
         assert!(rt;
-            fault_of_module(rt.alloc(), words) == Some((code, word)),
-            "{words:?}"
+            fault_of_module(rt.alloc(), terminals) == Some((code, terminal)),
+            "{terminals:?}"
         );
     }
     Ok(())
@@ -176,35 +180,43 @@ fn faults_of_modules_are_found(rt: HostRuntime) -> Result<(), Fail> {
 
 #[test]
 fn goals_are_read(rt: HostRuntime) -> Result<(), Fail> {
-    let rows: [(&[Word], usize); 4] = [
+    let rows: [(&[Terminal], usize); 4] = [
         (&[P], 1),
         (&[P, DOT], 1),
-        (&[P, OPEN, X, CLOSE, Word::Comma, X, Word::Equals, Q], 2),
-        (&[Q, Word::Comma, Q, Word::Comma, Q, DOT], 3),
+        (
+            &[P, OPEN, X, CLOSE, Terminal::Comma, X, Terminal::Equals, Q],
+            2,
+        ),
+        (&[Q, Terminal::Comma, Q, Terminal::Comma, Q, DOT], 3),
     ];
-    for (words, count) in rows {
-        let Ok(items) = goal_items_of(rt.alloc(), words) else {
-            assert!(rt; false, "{words:?}");
+    for (terminals, count) in rows {
+        let Ok(items) = goal_items_of(rt.alloc(), terminals) else {
+            assert!(rt; false, "{terminals:?}");
             return Ok(());
         };
-        assert!(rt; items.len() == count, "{words:?}");
+        assert!(rt; items.len() == count, "{terminals:?}");
     }
-    let faults: [(&[Word], Code, usize); 6] = [
+    let faults: [(&[Terminal], Code, usize); 6] = [
         (&[], Code::Unexpected, 0),
-        (&[P, Word::Comma], Code::Unexpected, 2),
+        (&[P, Terminal::Comma], Code::Unexpected, 2),
         (&[P, DOT, P], Code::Unexpected, 2),
-        (&[P, Word::Bar, Q], Code::Unexpected, 1),
+        (&[P, Terminal::Bar, Q], Code::Unexpected, 1),
         (&[P, OPEN, Q], Code::Unexpected, 3),
         (
-            &[X, Word::Equals, Word::Var(251, 1), Word::Var(251, 1)],
+            &[
+                X,
+                Terminal::Equals,
+                Terminal::Var(251, 1),
+                Terminal::Var(251, 1),
+            ],
             Code::TooLarge,
             2,
         ),
     ];
-    for (words, code, word) in faults {
+    for (terminals, code, terminal) in faults {
         assert!(rt;
-            fault_of_goal(rt.alloc(), words) == Some((code, word)),
-            "{words:?}"
+            fault_of_goal(rt.alloc(), terminals) == Some((code, terminal)),
+            "{terminals:?}"
         );
     }
     Ok(())
@@ -214,19 +226,19 @@ fn goals_are_read(rt: HostRuntime) -> Result<(), Fail> {
 fn limits_are_exact(rt: HostRuntime) -> Result<(), Fail> {
     let mut deep = Vec::new(rt.alloc());
     for _ in 0..256 {
-        deep.push(Word::CurlyOpen(1))?;
+        deep.push(Terminal::CurlyOpen(1))?;
     }
     assert!(rt; fault_of_goal(rt.alloc(), deep.as_slice()) == Some((Code::Unexpected, 256)));
-    deep.push(Word::SquareOpen(1))?;
+    deep.push(Terminal::SquareOpen(1))?;
     assert!(rt; fault_of_goal(rt.alloc(), deep.as_slice()) == Some((Code::TooDeep, 256)));
     let mut many = Vec::new(rt.alloc());
     for _ in 0..255 {
         many.push(P)?;
-        many.push(Word::Comma)?;
+        many.push(Terminal::Comma)?;
     }
     many.push(P)?;
     assert!(rt; goal_items_of(rt.alloc(), many.as_slice()).is_ok());
-    many.push(Word::Comma)?;
+    many.push(Terminal::Comma)?;
     many.push(P)?;
     assert!(rt; fault_of_goal(rt.alloc(), many.as_slice()) == Some((Code::TooLarge, 512)));
     Ok(())

@@ -14,7 +14,8 @@ use Rattle.fcp_text.specs.Tokens.{lex_from, piece_then, front, sign_after, Outco
 skips : (s : Bool) (n at : ℕ) (z : Text) → lex_from s at n z ≡ lex_from s (at + n) 0 (drop n z)
 skips s zero at z = let e : at ≡ at + 0 = omega arith in ap (λ a. lex_from s a 0 z) e
 skips s (suc n) at [] = refl
-skips s (suc n) at (b ∷ z) = skips s n (at + 1) z ∙ ap (λ a. lex_from s a 0 (drop n z)) (let e : (at + 1) + n ≡ at + suc n = omega arith in e)
+skips s (suc n) at (b ∷ z) =
+    skips s n (at + 1) z ∙ ap (λ a. lex_from s a 0 (drop n z)) (let e : (at + 1) + n ≡ at + suc n = omega arith in e)
 
 goes : (s : Bool) (n at b : ℕ) (z : Text) → 1 ≤ n → lex_from s (at + 1) (n - 1) z ≡ lex_from s (at + n) 0 (drop n (b ∷ z))
 goes s zero at b z h = absurd (omega arith)
@@ -28,7 +29,8 @@ lex_gap s zero at z h e = absurd (omega arith)
 lex_gap s (suc n) at [] h e = refl
 lex_gap s (suc n) at (b ∷ z) h e = ap (λ p. piece_then at (b ∷ z) s p (λ t k. lex_from t (at + 1) k z)) e ∙ goes s (suc n) at b z h
 
-pub lex_bad : (s : Bool) (at : ℕ) (z : Text) (c : Code) → 1 ≤ length z → scan s z ≡ piece.Bad c → lex_from s at 0 z ≡ Err (record { code = c; at = at })
+pub lex_bad : (s : Bool) (at : ℕ) (z : Text) (c : Code) → 1 ≤ length z → scan s z ≡ piece.Bad c
+    → lex_from s at 0 z ≡ Err (record { code = c; at = at })
 lex_bad s at [] c h e = absurd (omega arith)
 lex_bad s at (b ∷ z) c h e = ap (λ p. piece_then at (b ∷ z) s p (λ t k. lex_from t (at + 1) k z)) e
 
@@ -64,17 +66,22 @@ module _ (bytes : Text) (found : List Token) (s : Bool) (at : ℕ) (kept : Kept 
   unfolding rest
   rest-len = rw (take_rest bytes at, length-drop) (let w : at ≤ length bytes = kept.within in omega arith)
 
-  pub gap_kept : (n : ℕ) → piece.Gap n ≡ scan s (take (length bytes - at) (drop at bytes)) → (1 ≤ n) × (n ≤ length (take (length bytes - at) (drop at bytes))) → Kept bytes found s (at + n)
+  pub gap_kept : (n : ℕ) → piece.Gap n ≡ scan s (take (length bytes - at) (drop at bytes))
+      → (1 ≤ n) × (n ≤ length (take (length bytes - at) (drop at bytes))) → Kept bytes found s (at + n)
   unfolding rest
   gap_kept n e w =
       let r : scan s (drop at bytes) ≡ piece.Gap n = ap (scan s) (sym rest-is) ∙ sym e in
       record {
-        same = ap (λ z. front found (lex_from s (at + n) 0 z)) (sym (drop-drop n at bytes)) ∙ ap (front found) (sym (lex_gap s n at (drop at bytes) w.0 r)) ∙ kept.same;
+        same =
+            ap (λ z. front found (lex_from s (at + n) 0 z)) (sym (drop-drop n at bytes))
+            ∙ ap (front found) (sym (lex_gap s n at (drop at bytes) w.0 r)) ∙ kept.same;
         within = let l : length rest + at ≡ length bytes = rest-len in omega (arith, w.1);
       }
 
-  pub token_kept : (k : Kind) (n : ℕ) → at < length bytes → piece.Token k n ≡ scan s (take (length bytes - at) (drop at bytes)) → (1 ≤ n) × (n ≤ length (take (length bytes - at) (drop at bytes)))
-      → Kept bytes (found ++ record { kind = k; at = at; len = n } ∷ []) (sign_after (take n (take (length bytes - at) (drop at bytes))) k) (at + n)
+  pub token_kept : (k : Kind) (n : ℕ) → at < length bytes → piece.Token k n ≡ scan s (take (length bytes - at) (drop at bytes))
+      → (1 ≤ n) × (n ≤ length (take (length bytes - at) (drop at bytes)))
+      → Kept bytes (found ++ record { kind = k; at = at; len = n } ∷ []) (sign_after (take n (take (length bytes - at) (drop at bytes))) k)
+          (at + n)
   unfolding rest
   token_kept k n h e w =
       let r : scan s (drop at bytes) ≡ piece.Token k n = ap (scan s) (sym rest-is) ∙ sym e in
@@ -89,11 +96,17 @@ module _ (bytes : Text) (found : List Token) (s : Bool) (at : ℕ) (kept : Kept 
         within = let m : length rest + at ≡ length bytes = rest-len in omega (arith, w.1);
       }
 
-  pub token_more : (k : Kind) (n : ℕ) (more : List Token) (t : Bool) → at < length bytes → piece.Token k n ≡ scan s (take (length bytes - at) (drop at bytes)) → (1 ≤ n) × (n ≤ length (take (length bytes - at) (drop at bytes)))
-      → more ≡ found ++ record { kind = k; at = at; len = n } ∷ [] → t ≡ sign_after (take n (take (length bytes - at) (drop at bytes))) k → Kept bytes more t (at + n)
-  token_more k n more t h e w m g = subst (λ v. Kept bytes v t (at + n)) (sym m) (subst (λ v. Kept bytes (found ++ record { kind = k; at = at; len = n } ∷ []) v (at + n)) (sym g) (token_kept k n h e w))
+  pub token_more : (k : Kind) (n : ℕ) (more : List Token) (t : Bool) → at < length bytes
+      → piece.Token k n ≡ scan s (take (length bytes - at) (drop at bytes))
+      → (1 ≤ n) × (n ≤ length (take (length bytes - at) (drop at bytes)))
+      → more ≡ found ++ record { kind = k; at = at; len = n } ∷ [] → t ≡ sign_after (take n (take (length bytes - at) (drop at bytes))) k
+          → Kept bytes more t (at + n)
+  token_more k n more t h e w m g =
+      subst (λ v. Kept bytes v t (at + n)) (sym m)
+      (subst (λ v. Kept bytes (found ++ record { kind = k; at = at; len = n } ∷ []) v (at + n)) (sym g) (token_kept k n h e w))
 
-  pub bad_kept : (c : Code) → at < length bytes → piece.Bad c ≡ scan s (take (length bytes - at) (drop at bytes)) → lex_from true 0 0 bytes ≡ Err (record { code = c; at = at })
+  pub bad_kept : (c : Code) → at < length bytes → piece.Bad c ≡ scan s (take (length bytes - at) (drop at bytes))
+      → lex_from true 0 0 bytes ≡ Err (record { code = c; at = at })
   unfolding rest
   bad_kept c h e =
       let r : scan s (drop at bytes) ≡ piece.Bad c = ap (scan s) (sym rest-is) ∙ sym e in
@@ -105,7 +118,8 @@ module _ (bytes : Text) (found : List Token) (s : Bool) (at : ℕ) (kept : Kept 
   end_kept h =
       let w : at ≤ length bytes = kept.within in
       let a : at ≡ length bytes = omega arith in
-      sym kept.same ∙ ap (λ n. front found (lex_from s n 0 (drop n bytes))) a ∙ ap (λ z. front found (lex_from s (length bytes) 0 z)) (drop-length bytes) ∙ ap Ok (append-nil found)
+      sym kept.same ∙ ap (λ n. front found (lex_from s n 0 (drop n bytes))) a
+          ∙ ap (λ z. front found (lex_from s (length bytes) 0 z)) (drop-length bytes) ∙ ap Ok (append-nil found)
 
 pub none_kept : (bytes : Text) → Kept bytes [] true 0
 none_kept bytes = record { same = front-none (lex_from true 0 0 bytes); within = omega arith }

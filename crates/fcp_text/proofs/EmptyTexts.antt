@@ -19,12 +19,15 @@ module _ (names : List Bytes) where
   body_some [] e = absurd (cc)
   body_some (i ∷ is) e = refl
 
-  pub guard_some : (gs body : List Item) → (length gs == 0) ≡ false → tail_text names gs body ≡ codes " :- " ++ (items_text names gs ++ (codes " | " ++ items_text names body))
+  pub guard_some : (gs body : List Item) → (length gs == 0) ≡ false
+      → tail_text names gs body ≡ codes " :- " ++ (items_text names gs ++ (codes " | " ++ items_text names body))
   guard_some [] body e = absurd (cc)
   guard_some (g ∷ gs) body e = refl
 
-  pub clause_parts : (c : Clause) (args : List Term) (guard body : List Item) → args ≡ c.args → guard ≡ c.guard → body ≡ c.body → clause_text names c ≡ named_text names c.head args ++ (tail_text names guard body ++ codes ".")
+  pub clause_parts : (c : Clause) (args : List Term) (guard body : List Item) → args ≡ c.args → guard ≡ c.guard → body ≡ c.body
+      → clause_text names c ≡ named_text names c.head args ++ (tail_text names guard body ++ codes ".")
   clause_parts c args guard body p q r = rw (p, q, r) refl
 
-  pub exports_parts : (exports : Option (List Export)) (xs ys : List Export) → exports ≡ Some xs → ys ≡ xs → exports_line names exports ≡ codes "-export([" ++ parted (codes ",") (map (export_text names) ys) ++ codes "]).\n"
+  pub exports_parts : (exports : Option (List Export)) (xs ys : List Export) → exports ≡ Some xs → ys ≡ xs
+      → exports_line names exports ≡ codes "-export([" ++ parted (codes ",") (map (export_text names) ys) ++ codes "]).\n"
   exports_parts exports xs ys p q = rw (p, q) refl

@@ -33,8 +33,10 @@ module _ (names : List Bytes) where
   pub operand_of_leaf : (e : Expr) (t : Term) (at : ℕ) → e ≡ Leaf t at → operand_text names e ≡ term_text names t
   operand_of_leaf e t at is = rw is (operand-Leaf t at)
 
-  pub text_of_operation : (e : Expr) (op : ArithOp) (left right l r : Expr) (sign : Bytes) → e ≡ Op op left right → l ≡ left → r ≡ right → sign ≡ operator_text op → expr_text names e ≡ operand_text names l ++ (sign ++ operand_text names r)
+  pub text_of_operation : (e : Expr) (op : ArithOp) (left right l r : Expr) (sign : Bytes) → e ≡ Op op left right → l ≡ left → r ≡ right
+      → sign ≡ operator_text op → expr_text names e ≡ operand_text names l ++ (sign ++ operand_text names r)
   text_of_operation e op left right l r sign is p q s = rw (is, p, q, s) (text-Op op left right)
 
-  pub operand_of_operation : (e : Expr) (op : ArithOp) (left right : Expr) → e ≡ Op op left right → operand_text names e ≡ codes "(" ++ expr_text names e ++ codes ")"
+  pub operand_of_operation : (e : Expr) (op : ArithOp) (left right : Expr) → e ≡ Op op left right
+      → operand_text names e ≡ codes "(" ++ expr_text names e ++ codes ")"
   operand_of_operation e op left right is = rw is (operand-Op op left right)

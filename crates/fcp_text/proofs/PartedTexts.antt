@@ -23,18 +23,21 @@ module _ {A : Type 0} where
   drop_none xs i h = drop_all i xs h
 
   module _ (f : A → Bytes) (mark : Bytes) where
-    pub parted_first : (xs : List A) (i : ℕ) (x : A) → i < length xs → x ≡ get_or xs i x → parted mark (map f (drop i xs)) ≡ f x ++ each_behind mark (map f (drop (i + 1) xs))
+    pub parted_first : (xs : List A) (i : ℕ) (x : A) → i < length xs → x ≡ get_or xs i x
+        → parted mark (map f (drop i xs)) ≡ f x ++ each_behind mark (map f (drop (i + 1) xs))
     parted_first xs i x h e = ap (λ ys. parted mark (map f ys)) (drop_at xs i x h e)
 
     pub parted_none : (xs : List A) (i : ℕ) → length xs ≤ i → parted mark (map f (drop i xs)) ≡ []
     parted_none xs i h = ap (λ ys. parted mark (map f ys)) (drop_none xs i h)
 
-    pub behind_step : (xs : List A) (i : ℕ) (x : A) → i < length xs → x ≡ get_or xs i x → each_behind mark (map f (drop i xs)) ≡ mark ++ (f x ++ each_behind mark (map f (drop (i + 1) xs)))
+    pub behind_step : (xs : List A) (i : ℕ) (x : A) → i < length xs → x ≡ get_or xs i x
+        → each_behind mark (map f (drop i xs)) ≡ mark ++ (f x ++ each_behind mark (map f (drop (i + 1) xs)))
     behind_step xs i x h e = ap (λ ys. each_behind mark (map f ys)) (drop_at xs i x h e)
 
     pub behind_none : (xs : List A) (i : ℕ) → length xs ≤ i → each_behind mark (map f (drop i xs)) ≡ []
     behind_none xs i h = ap (λ ys. each_behind mark (map f ys)) (drop_none xs i h)
 
     -- before the element was taken; `d` stands for one past the end
-    pub behind_here : (xs : List A) (i : ℕ) (d : A) → i < length xs → each_behind mark (map f (drop i xs)) ≡ mark ++ (f (get_or xs i d) ++ each_behind mark (map f (drop (suc i) xs)))
+    pub behind_here : (xs : List A) (i : ℕ) (d : A) → i < length xs
+        → each_behind mark (map f (drop i xs)) ≡ mark ++ (f (get_or xs i d) ++ each_behind mark (map f (drop (suc i) xs)))
     behind_here xs i d h = ap (λ ys. each_behind mark (map f ys)) (drop-cons xs i d h)

@@ -28,7 +28,8 @@ pub begin : {old : Option (List ℕ)} {before : ℕ} {text : List ℕ} → HasRe
 begin {old} {before} {text} = record { done = []; whole = refl; written = appended-nil old; quiet = refl }
 
 -- a piece was written, and what is behind it is left
-pub go_on : {old new new' : Option (List ℕ)} {before now now' : ℕ} {text piece rest : List ℕ} → Appends new new' now now' piece → HasRest old new before now text (piece ++ rest) → HasRest old new' before now' text rest
+pub go_on : {old new new' : Option (List ℕ)} {before now now' : ℕ} {text piece rest : List ℕ} → Appends new new' now now' piece
+    → HasRest old new before now text (piece ++ rest) → HasRest old new' before now' text rest
 go_on {old} {new} {new'} {before} {now} {now'} {text} {piece} {rest} a h = record {
   done = h.done ++ piece;
   whole = append_assoc h.done piece rest ∙ h.whole;
@@ -37,14 +38,16 @@ go_on {old} {new} {new'} {before} {now} {now'} {text} {piece} {rest} a h = recor
 }
 
 -- nothing is left
-pub finish : {old new : Option (List ℕ)} {before now : ℕ} {text : List ℕ} → HasRest old new before now text [] → Appends old new before now text
+pub finish : {old new : Option (List ℕ)} {before now : ℕ} {text : List ℕ} → HasRest old new before now text []
+    → Appends old new before now text
 finish {old} {new} {before} {now} {text} h = record {
   whole = h.written ∙ ap (appended old) (sym (append-nil h.done) ∙ h.whole);
   quiet = h.quiet;
 }
 
 -- the last piece was written
-pub last : {old new new' : Option (List ℕ)} {before now now' : ℕ} {text rest : List ℕ} → Appends new new' now now' rest → HasRest old new before now text rest → Appends old new' before now' text
+pub last : {old new new' : Option (List ℕ)} {before now now' : ℕ} {text rest : List ℕ} → Appends new new' now now' rest
+    → HasRest old new before now text rest → Appends old new' before now' text
 last {old} {new} {new'} {before} {now} {now'} {text} {rest} a h = record {
   whole = a.whole ∙ ap (λ o. appended o rest) h.written ∙ appended-append old h.done rest ∙ ap (appended old) h.whole;
   quiet = a.quiet ∙ h.quiet;
@@ -57,7 +60,8 @@ front (suc k) [] ys = (zero, refl)
 front (suc k) (x ∷ xs) ys = let f : (m : ℕ) × (take k xs ≡ take m (xs ++ ys)) = front k xs ys in (suc f.0, ap (λ zs. x ∷ zs) f.1)
 
 -- a piece stopped short, of which the rest was the whole
-stop_last : {old new new' : Option (List ℕ)} {before now now' : ℕ} {text rest : List ℕ} → StopsShort new new' now now' rest → HasRest old new before now text rest → StopsShort old new' before now' text
+stop_last : {old new new' : Option (List ℕ)} {before now now' : ℕ} {text rest : List ℕ} → StopsShort new new' now now' rest
+    → HasRest old new before now text rest → StopsShort old new' before now' text
 stop_last {old} {new} {new'} {before} {now} {now'} {text} {rest} s h = record {
   front = (
     length h.done + s.front.0,
@@ -69,19 +73,23 @@ stop_last {old} {new} {new'} {before} {now} {now'} {text} {rest} s h = record {
 }
 
 -- a piece stopped short
-pub stop : {old new new' : Option (List ℕ)} {before now now' : ℕ} {text piece : List ℕ} (answer : Result (Unit {0}) SinkFailed) → IsErr answer → StopsShort new new' now now' piece → (rest : List ℕ) → HasRest old new before now text (piece ++ rest) → IsWritten old new' before now' text answer
+pub stop : {old new new' : Option (List ℕ)} {before now now' : ℕ} {text piece : List ℕ} (answer : Result (Unit {0}) SinkFailed)
+    → IsErr answer → StopsShort new new' now now' piece → (rest : List ℕ) → HasRest old new before now text (piece ++ rest)
+    → IsWritten old new' before now' text answer
 stop (Ok done) e s rest h = let p : false ≡ true = e in absurd (cc)
 stop {old} {new} {new'} {before} {now} {now'} {text} {piece} (Err failed) e s rest h =
     let f : (m : ℕ) × (take s.front.0 piece ≡ take m (piece ++ rest)) = front s.front.0 piece rest in
     stop_last (record { front = (f.0, s.front.1 ∙ ap (appended new) f.1); later = s.later; rose = s.rose }) h
 
 -- the last piece was put, whatever came of it
-pub end : {old new : Option (List ℕ)} {before now : ℕ} {text rest : List ℕ} (answer : Result (Unit {0}) SinkFailed) (new' : Option (List ℕ)) (now' : ℕ) → HasRest old new before now text rest → IsWritten new new' now now' rest answer → IsWritten old new' before now' text answer
+pub end : {old new : Option (List ℕ)} {before now : ℕ} {text rest : List ℕ} (answer : Result (Unit {0}) SinkFailed) (new' : Option (List ℕ))
+    (now' : ℕ) → HasRest old new before now text rest → IsWritten new new' now now' rest answer → IsWritten old new' before now' text answer
 end (Ok done) new' now' h a = last a h
 end (Err failed) new' now' h s = stop_last s h
 
 -- what is left, written otherwise
-pub moved : {old new : Option (List ℕ)} {before now : ℕ} {text rest rest' : List ℕ} → rest ≡ rest' → HasRest old new before now text rest → HasRest old new before now text rest'
+pub moved : {old new : Option (List ℕ)} {before now : ℕ} {text rest rest' : List ℕ} → rest ≡ rest' → HasRest old new before now text rest
+    → HasRest old new before now text rest'
 moved {old} {new} {before} {now} {text} e h = subst (λ r. HasRest old new before now text r) e h
 
 -- a text, written otherwise

@@ -10,7 +10,8 @@ use Rattle.fcp_model.specs.Spelling.{doubled, is_name, string_text}
 use Rattle.fcp_text.specs.Quotes.{is_quote}
 
 -- where no quote is among the first bytes, and one is behind them
-run_of : (bs : List ℕ) (i : ℕ) → i < length bs → is_quote (get_or bs i 0) ≡ true → ((k : ℕ) → k < i → is_quote (get_or bs k 0) ≡ false) → doubled bs ≡ take (suc i) bs ++ 39 ∷ doubled (drop (suc i) bs)
+run_of : (bs : List ℕ) (i : ℕ) → i < length bs → is_quote (get_or bs i 0) ≡ true → ((k : ℕ) → k < i → is_quote (get_or bs k 0) ≡ false)
+    → doubled bs ≡ take (suc i) bs ++ 39 ∷ doubled (drop (suc i) bs)
 run_of [] i h q before = absurd (omega arith)
 run_of (b ∷ bs) zero h q before = rw q (ap (λ x. x ∷ 39 ∷ doubled bs) (sym (eqb-true b 39 q)))
 run_of (b ∷ bs) (suc i) h q before =
@@ -29,7 +30,9 @@ none_of (b ∷ bs) h =
     rw p (ap (λ xs. b ∷ xs) (none_of bs (λ k l. h (suc k) (omega arith))))
 
 pub no_quote : (bs : List ℕ) → position is_quote bs ≡ None → doubled bs ≡ bs
-no_quote bs e = none_of bs (λ k l. elim (nat_lt (position_or_len is_quote bs) (length bs)) as (λ b. nat_lt (position_or_len is_quote bs) (length bs) ≡ b → is_quote (get_or bs k 0) ≡ false) [
+no_quote bs e =
+    none_of bs (λ k l. elim (nat_lt (position_or_len is_quote bs) (length bs)) as
+    (λ b. nat_lt (position_or_len is_quote bs) (length bs) ≡ b → is_quote (get_or bs k 0) ≡ false) [
   | true ↦ λ t. let q : Some (position_or_len is_quote bs) ≡ None = rw t at e in absurd (cc)
   | false ↦ λ t. fails_before_first is_quote bs k 0 (grind arith)
 ] refl)
@@ -38,7 +41,8 @@ no_quote bs e = none_of bs (λ k l. elim (nat_lt (position_or_len is_quote bs) (
 behind : (n : ℕ) (bs : List ℕ) → drop n bs ≡ take (length bs - n) (drop n bs)
 behind n bs = sym (take_all (length bs - n) (drop n bs) (omega (arith, length-drop n bs)))
 
-pub quote_step : (bs : List ℕ) (i : ℕ) → position is_quote bs ≡ Some i → doubled bs ≡ take (i + 1) bs ++ 39 ∷ doubled (take (length bs - (i + 1)) (drop (i + 1) bs))
+pub quote_step : (bs : List ℕ) (i : ℕ) → position is_quote bs ≡ Some i
+    → doubled bs ≡ take (i + 1) bs ++ 39 ∷ doubled (take (length bs - (i + 1)) (drop (i + 1) bs))
 quote_step bs i e = to_quote bs i e ∙ ap (λ xs. take (i + 1) bs ++ 39 ∷ doubled xs) (behind (i + 1) bs)
 
 pub quote_within : (bs : List ℕ) (i : ℕ) → position is_quote bs ≡ Some i → i < length bs

@@ -63,7 +63,8 @@ module _ (z : Text) (b : ℕ) (w : Text) (at : ℕ) (here : drop at z ≡ b ∷ 
       )
   piece-stands s (piece.Bad c) ts is go e = absurd (cc)
 
-lex-stands : (z w : Text) (s : Bool) (at n : ℕ) (ts : List Token) → drop at z ≡ w → at + length w ≡ length z → n ≤ length w → lex_from s at n w ≡ Ok ts → Stand z (at + n) ts
+lex-stands : (z w : Text) (s : Bool) (at n : ℕ) (ts : List Token) → drop at z ≡ w → at + length w ≡ length z → n ≤ length w
+    → lex_from s at n w ≡ Ok ts → Stand z (at + n) ts
 lex-stands z [] s at zero ts h l m e = let f : [] ≡ ts = cc in subst (Stand z (at + 0)) f (omega arith)
 lex-stands z [] s at (suc n) ts h l m e = absurd (omega arith)
 lex-stands z (b ∷ w) s at (suc n) ts h l m e =
@@ -117,7 +118,8 @@ tokens-of z ts h = each z 0 ts (tokens-stand z ts h)
 -- ---- the bytes of a token
 
 -- the bytes between two bytes of ASCII
-cut-IsUtf8 : (z : Text) (at n : ℕ) → IsUtf8 z → 1 ≤ n → at + n ≤ length z → get_or (drop at z) 0 0 < 128 → get_or (drop at z) (n - 1) 0 < 128 → IsUtf8 (take n (drop at z))
+cut-IsUtf8 : (z : Text) (at n : ℕ) → IsUtf8 z → 1 ≤ n → at + n ≤ length z → get_or (drop at z) 0 0 < 128
+    → get_or (drop at z) (n - 1) 0 < 128 → IsUtf8 (take n (drop at z))
 cut-IsUtf8 z at n u l m f g =
     let a : get_or z (at + 0) 0 < 128 = subst (λ b. b < 128) (get_or-drop at z 0 0) f in
     let b : get_or z (at + (n - 1)) 0 < 128 = subst (λ b. b < 128) (get_or-drop at z (n - 1) 0) g in
@@ -151,7 +153,8 @@ quoted_token-IsUtf8 z t u is e =
 pub quoted_token-two : (z : Text) (t : Token) → IsTokenOf z t → t.kind ≡ kind.Quoted → 2 ≤ t.len
 quoted_token-two z t is e = (quoted-spelled z t is e).two
 
-inside-IsUtf8 : (z : Text) (at n : ℕ) → IsUtf8 z → at + n ≤ length z → IsBetweenQuotes n (drop at z) → IsUtf8 (slice_range z (at + 1) (at + n - 1))
+inside-IsUtf8 : (z : Text) (at n : ℕ) → IsUtf8 z → at + n ≤ length z → IsBetweenQuotes n (drop at z)
+    → IsUtf8 (slice_range z (at + 1) (at + n - 1))
 inside-IsUtf8 z at n u m q =
     let l : 2 ≤ n = q.two in
     let a : get_or z (at + 0) 0 < 128 = subst (λ b. b < 128) (get_or-drop at z 0 0) (first-below n (drop at z) q) in
@@ -163,7 +166,8 @@ inside-IsUtf8 z at n u m q =
     (IsCharBoundary-before_ascii z (at + n - 1) (omega arith) (subst (λ k. get_or z k 0 < 128) i b))
 
 -- what is between them is UTF-8
-pub quoted_inside-IsUtf8 : (z : Text) (t : Token) → IsUtf8 z → IsTokenOf z t → t.kind ≡ kind.Quoted → IsUtf8 (slice_range z (t.at + 1) (t.at + t.len - 1))
+pub quoted_inside-IsUtf8 : (z : Text) (t : Token) → IsUtf8 z → IsTokenOf z t → t.kind ≡ kind.Quoted
+    → IsUtf8 (slice_range z (t.at + 1) (t.at + t.len - 1))
 quoted_inside-IsUtf8 z t u is e = inside-IsUtf8 z t.at t.len u is.within (quoted-spelled z t is e)
 
 first-of : (n : ℕ) (z : Text) → 1 ≤ n → get_or z 0 0 < 128 → get_or (take n z) 0 0 < 128
@@ -171,7 +175,8 @@ first-of zero z l h = absurd (omega arith)
 first-of (suc n) [] l h = h
 first-of (suc n) (b ∷ z) l h = h
 
-well : (z : Text) (at n : ℕ) (k : Kind) → IsUtf8 z → 1 ≤ n → at + n ≤ length z → IsSpelled k n (drop at z) → IsSpelledWell k (take n (drop at z))
+well : (z : Text) (at n : ℕ) (k : Kind) → IsUtf8 z → 1 ≤ n → at + n ≤ length z → IsSpelled k n (drop at z)
+    → IsSpelledWell k (take n (drop at z))
 well z at n kind.Name u l m h = h
 well z at n kind.Variable u l m h = h
 well z at n kind.Quoted u l m h =

@@ -48,7 +48,8 @@ module _ (names : List Bytes) where
   Ends t = (t ≡ Nil → ⊥) → ((h u : Term) → t ≡ Cons h u → ⊥) → rest_text names t ≡ codes "|" ++ term_text names t ++ codes "]"
 
   -- the rest of a list that is neither a pair nor `[]`
-  pub rest_other : (t : Term) → (t ≡ Nil → ⊥) → ((h u : Term) → t ≡ Cons h u → ⊥) → rest_text names t ≡ codes "|" ++ term_text names t ++ codes "]"
+  pub rest_other : (t : Term) → (t ≡ Nil → ⊥) → ((h u : Term) → t ≡ Cons h u → ⊥)
+      → rest_text names t ≡ codes "|" ++ term_text names t ++ codes "]"
   unfolding Ends term_text rest_text
   rest_other = term_induction Ends
       (λ n a b. ended _ _ _ (fold-Int TermTexts (text_step names) n))
@@ -99,19 +100,23 @@ module _ (names : List Bytes) where
       tuple-text (t ∷ u ∷ us) ∙ rw no_string (braces-text (t ∷ u ∷ us))
 
   -- a tuple that is written as a call
-  pub text_as_call : (ts : List Term) (s : Sym) → called_name ts ≡ Some s → term_text names (Tuple ts) ≡ string_text (name_at names s.0) ++ (codes "(" ++ terms_text names (drop 1 ts) ++ codes ")")
+  pub text_as_call : (ts : List Term) (s : Sym) → called_name ts ≡ Some s
+      → term_text names (Tuple ts) ≡ string_text (name_at names s.0) ++ (codes "(" ++ terms_text names (drop 1 ts) ++ codes ")")
   unfolding IsNamed
   text_as_call [] s e = absurd (cc)
   text_as_call (t ∷ []) s e = absurd (cc)
   text_as_call (t ∷ u ∷ us) s e =
       let is : t ≡ Str s = rw e at (named t) in
-      let texts : term_texts names t ≡ no_list true (string_text (name_at names s.0)) = ap (term_texts names) is ∙ fold-Str TermTexts (text_step names) s in
+      let texts : term_texts names t ≡ no_list true (string_text (name_at names s.0)) =
+          ap (term_texts names) is ∙ fold-Str TermTexts (text_step names) s in
       tuple-text (t ∷ u ∷ us) ∙ ap (λ x. tuple_of (x ∷ map (term_texts names) (u ∷ us))) texts
       ∙ ap (λ xs. string_text (name_at names s.0) ++ (codes "(" ++ xs ++ codes ")")) (parts-text (u ∷ us))
 
   -- the same of a pair that was taken apart
-  pub text_of_pair : (term head tail h t : Term) → term ≡ Cons head tail → h ≡ head → t ≡ tail → term_text names term ≡ codes "[" ++ term_text names h ++ rest_text names t
+  pub text_of_pair : (term head tail h t : Term) → term ≡ Cons head tail → h ≡ head → t ≡ tail
+      → term_text names term ≡ codes "[" ++ term_text names h ++ rest_text names t
   text_of_pair term head tail h t e p q = rw (e, p, q) (text-Cons head tail)
 
-  pub rest_of_pair : (term head tail h t : Term) → term ≡ Cons head tail → h ≡ head → t ≡ tail → rest_text names term ≡ codes "," ++ term_text names h ++ rest_text names t
+  pub rest_of_pair : (term head tail h t : Term) → term ≡ Cons head tail → h ≡ head → t ≡ tail
+      → rest_text names term ≡ codes "," ++ term_text names h ++ rest_text names t
   rest_of_pair term head tail h t e p q = rw (e, p, q) (rest-Cons head tail)

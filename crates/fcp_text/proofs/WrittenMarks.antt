@@ -15,6 +15,7 @@ use Rattle.fcp_text.specs.Pieces.{scan, mark_piece}
 use Rattle.fcp_text.specs.Tokens.{lex_from, front, sign_after}
 use Rattle.fcp_text.proofs.Choices.{and-first, and-second, passed}
 use Rattle.fcp_text.proofs.WrittenWords.{lex-piece}
+use Rattle.fcp_text.specs.Signs as signs
 
 -- what follows makes no longer mark of `=`, `>`, `-` or `:`, and no number of `-`
 pub record EndsMark (z : Text) : Type 0 where
@@ -25,24 +26,24 @@ pub record EndsMark (z : Text) : Type 0 where
   pub no_back : nat_eq 92 (slice_index z 0) ≡ false
   pub no_digit : is_ascii_digit (slice_index z 0) ≡ false
 
--- such a text behind the marks 12, 17, 22 and 25; any text behind the others
+-- such a text behind `=`, `>`, `-` and `:`; any text behind the others
 abbrev pub MayFollow : ℕ → Text → Type 0
-MayFollow n z = OnTrue (n == 12 || n == 17 || n == 22 || n == 25) (EndsMark z)
+MayFollow n z = OnTrue (n == signs.equals || n == signs.greater || n == signs.minus || n == signs.colon) (EndsMark z)
 
 -- ---- the mark of a text that begins with one of these four
 
-equal-mark : (z : Text) → EndsMark z → mark (61 ∷ z) ≡ Some (12, 1)
+equal-mark : (z : Text) → EndsMark z → mark (61 ∷ z) ≡ Some (signs.equals, 1)
 unfolding mark
 equal-mark [] h = refl
 equal-mark (c ∷ []) h = rw (h.no_equal, h.no_less, h.no_colon, h.no_back) refl
 equal-mark (c ∷ d ∷ z) h = rw (h.no_equal, h.no_less, h.no_colon, h.no_back) refl
 
-colon-mark : (z : Text) → EndsMark z → mark (58 ∷ z) ≡ Some (25, 1)
+colon-mark : (z : Text) → EndsMark z → mark (58 ∷ z) ≡ Some (signs.colon, 1)
 unfolding mark
 colon-mark [] h = refl
 colon-mark (c ∷ z) h = rw (h.no_equal, h.no_minus) refl
 
-greater-mark : (z : Text) → EndsMark z → mark (62 ∷ z) ≡ Some (17, 1)
+greater-mark : (z : Text) → EndsMark z → mark (62 ∷ z) ≡ Some (signs.greater, 1)
 unfolding mark
 greater-mark [] h = refl
 greater-mark (c ∷ z) h = rw h.no_equal refl
@@ -74,141 +75,157 @@ Each (m ∷ ms) = P m × Each ms
 
 -- a byte that begins no gap, no word and no quoted string
 abbrev IsMarkFirst : ℕ → Type 0
-IsMarkFirst b = (is_blank b ≡ false) × ((b == 37) ≡ false) × (is_ascii_lowercase b ≡ false) × ((is_ascii_uppercase b || b == 95) ≡ false) × ((b == 39 || b == 34) ≡ false)
+IsMarkFirst b =
+    (is_blank b ≡ false) × ((b == 37) ≡ false) × (is_ascii_lowercase b ≡ false) × ((is_ascii_uppercase b || b == 95) ≡ false)
+    × ((b == 39 || b == 34) ≡ false)
 
-from : (s : Bool) (b : ℕ) (z : Text) (p : Piece) → IsMarkFirst b → begins_number s (b ∷ z) ≡ false → mark_piece (mark (b ∷ z)) ≡ p → scan s (b ∷ z) ≡ p
+from : (s : Bool) (b : ℕ) (z : Text) (p : Piece) → IsMarkFirst b → begins_number s (b ∷ z) ≡ false → mark_piece (mark (b ∷ z)) ≡ p
+    → scan s (b ∷ z) ≡ p
 unfolding scan
 from s b z p f n e =
     passed (is_blank b) _ _ _ f.0 (passed (b == 37) _ _ _ f.1 (passed (is_ascii_lowercase b) _ _ _ f.2
-    (passed (is_ascii_uppercase b || b == 95) _ _ _ f.3 (passed (b == 39 || b == 34) _ _ _ f.4 (passed (begins_number s (b ∷ z)) _ _ _ n e)))))
+    (passed (is_ascii_uppercase b || b == 95) _ _ _ f.3
+        (passed (b == 39 || b == 34) _ _ _ f.4 (passed (begins_number s (b ∷ z)) _ _ _ n e)))))
 
-plain : (s : Bool) (b : ℕ) (z : Text) (p : Piece) → IsMarkFirst b → is_ascii_digit b ≡ false → (b == 45) ≡ false → mark_piece (mark (b ∷ z)) ≡ p → scan s (b ∷ z) ≡ p
+plain : (s : Bool) (b : ℕ) (z : Text) (p : Piece) → IsMarkFirst b → is_ascii_digit b ≡ false → (b == 45) ≡ false
+    → mark_piece (mark (b ∷ z)) ≡ p → scan s (b ∷ z) ≡ p
 plain s b z p f d m e = from s b z p f (no-sign s b z d m) e
 
-mark-14 : P (codes "\\==", 14)
+mark-not_same : P (codes "\\==", signs.not_same)
 unfolding mark
-mark-14 s rest h = plain s 92 (61 ∷ 61 ∷ rest) _ (refl, refl, refl, refl, refl) refl refl refl
+mark-not_same s rest h = plain s 92 (61 ∷ 61 ∷ rest) _ (refl, refl, refl, refl, refl) refl refl refl
 
-mark-19 : P (codes "=:=", 19)
+mark-equal : P (codes "=:=", signs.equal)
 unfolding mark
-mark-19 s rest h = plain s 61 (58 ∷ 61 ∷ rest) _ (refl, refl, refl, refl, refl) refl refl refl
+mark-equal s rest h = plain s 61 (58 ∷ 61 ∷ rest) _ (refl, refl, refl, refl, refl) refl refl refl
 
-mark-20 : P (codes "=\\=", 20)
+mark-not_equal : P (codes "=\\=", signs.not_equal)
 unfolding mark
-mark-20 s rest h = plain s 61 (92 ∷ 61 ∷ rest) _ (refl, refl, refl, refl, refl) refl refl refl
+mark-not_equal s rest h = plain s 61 (92 ∷ 61 ∷ rest) _ (refl, refl, refl, refl, refl) refl refl refl
 
-mark-10 : P (codes ":-", 10)
+mark-if_sign : P (codes ":-", signs.if_sign)
 unfolding mark
-mark-10 s rest h = plain s 58 (45 ∷ rest) _ (refl, refl, refl, refl, refl) refl refl refl
+mark-if_sign s rest h = plain s 58 (45 ∷ rest) _ (refl, refl, refl, refl, refl) refl refl refl
 
-mark-11 : P (codes ":=", 11)
+mark-assign : P (codes ":=", signs.assign)
 unfolding mark
-mark-11 s rest h = plain s 58 (61 ∷ rest) _ (refl, refl, refl, refl, refl) refl refl refl
+mark-assign s rest h = plain s 58 (61 ∷ rest) _ (refl, refl, refl, refl, refl) refl refl refl
 
-mark-13 : P (codes "==", 13)
+mark-same : P (codes "==", signs.same)
 unfolding mark
-mark-13 s rest h = plain s 61 (61 ∷ rest) _ (refl, refl, refl, refl, refl) refl refl refl
+mark-same s rest h = plain s 61 (61 ∷ rest) _ (refl, refl, refl, refl, refl) refl refl refl
 
-mark-16 : P (codes "=<", 16)
+mark-at_most : P (codes "=<", signs.at_most)
 unfolding mark
-mark-16 s rest h = plain s 61 (60 ∷ rest) _ (refl, refl, refl, refl, refl) refl refl refl
+mark-at_most s rest h = plain s 61 (60 ∷ rest) _ (refl, refl, refl, refl, refl) refl refl refl
 
-mark-18 : P (codes ">=", 18)
+mark-at_least : P (codes ">=", signs.at_least)
 unfolding mark
-mark-18 s rest h = plain s 62 (61 ∷ rest) _ (refl, refl, refl, refl, refl) refl refl refl
+mark-at_least s rest h = plain s 62 (61 ∷ rest) _ (refl, refl, refl, refl, refl) refl refl refl
 
-mark-0 : P (codes "(", 0)
+mark-round_open : P (codes "(", signs.round_open)
 unfolding mark
-mark-0 s rest h = plain s 40 rest _ (refl, refl, refl, refl, refl) refl refl refl
+mark-round_open s rest h = plain s 40 rest _ (refl, refl, refl, refl, refl) refl refl refl
 
-mark-1 : P (codes ")", 1)
+mark-round_close : P (codes ")", signs.round_close)
 unfolding mark
-mark-1 s rest h = plain s 41 rest _ (refl, refl, refl, refl, refl) refl refl refl
+mark-round_close s rest h = plain s 41 rest _ (refl, refl, refl, refl, refl) refl refl refl
 
-mark-2 : P (codes "[", 2)
+mark-square_open : P (codes "[", signs.square_open)
 unfolding mark
-mark-2 s rest h = plain s 91 rest _ (refl, refl, refl, refl, refl) refl refl refl
+mark-square_open s rest h = plain s 91 rest _ (refl, refl, refl, refl, refl) refl refl refl
 
-mark-3 : P (codes "]", 3)
+mark-square_close : P (codes "]", signs.square_close)
 unfolding mark
-mark-3 s rest h = plain s 93 rest _ (refl, refl, refl, refl, refl) refl refl refl
+mark-square_close s rest h = plain s 93 rest _ (refl, refl, refl, refl, refl) refl refl refl
 
-mark-4 : P (codes "{", 4)
+mark-curly_open : P (codes "{", signs.curly_open)
 unfolding mark
-mark-4 s rest h = plain s 123 rest _ (refl, refl, refl, refl, refl) refl refl refl
+mark-curly_open s rest h = plain s 123 rest _ (refl, refl, refl, refl, refl) refl refl refl
 
-mark-5 : P (codes "}", 5)
+mark-curly_close : P (codes "}", signs.curly_close)
 unfolding mark
-mark-5 s rest h = plain s 125 rest _ (refl, refl, refl, refl, refl) refl refl refl
+mark-curly_close s rest h = plain s 125 rest _ (refl, refl, refl, refl, refl) refl refl refl
 
-mark-6 : P (codes "|", 6)
+mark-bar : P (codes "|", signs.bar)
 unfolding mark
-mark-6 s rest h = plain s 124 rest _ (refl, refl, refl, refl, refl) refl refl refl
+mark-bar s rest h = plain s 124 rest _ (refl, refl, refl, refl, refl) refl refl refl
 
-mark-7 : P (codes ",", 7)
+mark-comma : P (codes ",", signs.comma)
 unfolding mark
-mark-7 s rest h = plain s 44 rest _ (refl, refl, refl, refl, refl) refl refl refl
+mark-comma s rest h = plain s 44 rest _ (refl, refl, refl, refl, refl) refl refl refl
 
-mark-8 : P (codes ".", 8)
+mark-dot : P (codes ".", signs.dot)
 unfolding mark
-mark-8 s rest h = plain s 46 rest _ (refl, refl, refl, refl, refl) refl refl refl
+mark-dot s rest h = plain s 46 rest _ (refl, refl, refl, refl, refl) refl refl refl
 
-mark-9 : P (codes "?", 9)
+mark-question : P (codes "?", signs.question)
 unfolding mark
-mark-9 s rest h = plain s 63 rest _ (refl, refl, refl, refl, refl) refl refl refl
+mark-question s rest h = plain s 63 rest _ (refl, refl, refl, refl, refl) refl refl refl
 
-mark-12 : P (codes "=", 12)
+mark-equals : P (codes "=", signs.equals)
 unfolding mark
-mark-12 s rest h = plain s 61 rest _ (refl, refl, refl, refl, refl) refl refl (ap mark_piece (equal-mark rest h))
+mark-equals s rest h = plain s 61 rest _ (refl, refl, refl, refl, refl) refl refl (ap mark_piece (equal-mark rest h))
 
-mark-15 : P (codes "<", 15)
+mark-less : P (codes "<", signs.less)
 unfolding mark
-mark-15 s rest h = plain s 60 rest _ (refl, refl, refl, refl, refl) refl refl refl
+mark-less s rest h = plain s 60 rest _ (refl, refl, refl, refl, refl) refl refl refl
 
-mark-17 : P (codes ">", 17)
+mark-greater : P (codes ">", signs.greater)
 unfolding mark
-mark-17 s rest h = plain s 62 rest _ (refl, refl, refl, refl, refl) refl refl (ap mark_piece (greater-mark rest h))
+mark-greater s rest h = plain s 62 rest _ (refl, refl, refl, refl, refl) refl refl (ap mark_piece (greater-mark rest h))
 
-mark-21 : P (codes "+", 21)
+mark-plus : P (codes "+", signs.plus)
 unfolding mark
-mark-21 s rest h = plain s 43 rest _ (refl, refl, refl, refl, refl) refl refl refl
+mark-plus s rest h = plain s 43 rest _ (refl, refl, refl, refl, refl) refl refl refl
 
-mark-22 : P (codes "-", 22)
+mark-minus : P (codes "-", signs.minus)
 unfolding mark
-mark-22 s rest h = from s 45 rest _ (refl, refl, refl, refl, refl) (no-number s rest h.no_digit) refl
+mark-minus s rest h = from s 45 rest _ (refl, refl, refl, refl, refl) (no-number s rest h.no_digit) refl
 
-mark-23 : P (codes "*", 23)
+mark-times : P (codes "*", signs.times)
 unfolding mark
-mark-23 s rest h = plain s 42 rest _ (refl, refl, refl, refl, refl) refl refl refl
+mark-times s rest h = plain s 42 rest _ (refl, refl, refl, refl, refl) refl refl refl
 
-mark-24 : P (codes "/", 24)
+mark-divide : P (codes "/", signs.divide)
 unfolding mark
-mark-24 s rest h = plain s 47 rest _ (refl, refl, refl, refl, refl) refl refl refl
+mark-divide s rest h = plain s 47 rest _ (refl, refl, refl, refl, refl) refl refl refl
 
-mark-25 : P (codes ":", 25)
+mark-colon : P (codes ":", signs.colon)
 unfolding mark
-mark-25 s rest h = plain s 58 rest _ (refl, refl, refl, refl, refl) refl refl (ap mark_piece (colon-mark rest h))
+mark-colon s rest h = plain s 58 rest _ (refl, refl, refl, refl, refl) refl refl (ap mark_piece (colon-mark rest h))
 
-mark-26 : P (codes "#", 26)
+mark-hash : P (codes "#", signs.hash)
 unfolding mark
-mark-26 s rest h = plain s 35 rest _ (refl, refl, refl, refl, refl) refl refl refl
+mark-hash s rest h = plain s 35 rest _ (refl, refl, refl, refl, refl) refl refl refl
 
 each-mark : Each marks
-each-mark = (mark-14, (mark-19, (mark-20, (mark-10, (mark-11, (mark-13, (mark-16, (mark-18, (mark-0, (mark-1, (mark-2, (mark-3, (mark-4, (mark-5, (mark-6, (mark-7, (mark-8, (mark-9, (mark-12, (mark-15, (mark-17, (mark-21, (mark-22, (mark-23, (mark-24, (mark-25, (mark-26, tt)))))))))))))))))))))))))))
+each-mark =
+    (mark-not_same, (mark-equal, (mark-not_equal,
+    (mark-if_sign, (mark-assign, (mark-same,
+    (mark-at_most, (mark-at_least,
+    (mark-round_open, (mark-round_close,
+    (mark-square_open, (mark-square_close,
+    (mark-curly_open, (mark-curly_close,
+    (mark-bar, (mark-comma, (mark-dot,
+    (mark-question, (mark-equals, (mark-less,
+    (mark-greater, (mark-plus, (mark-minus, (mark-times, (mark-divide, (mark-colon, (mark-hash, tt)))))))))))))))))))))))))))
 
 row : (ms : List (Text × ℕ)) (k : ℕ) (m : Text × ℕ) → Each ms → slice_get ms k ≡ Some m → P m
 row [] k m e h = absurd (cc)
 row (l ∷ ms) zero m e h = let g : l ≡ m = cc in subst P g e.0
 row (l ∷ ms) (suc k) m e h = row ms k m e.1 h
 
-some-byte : (ms : List (Text × ℕ)) (k : ℕ) (m : Text × ℕ) → list_all (λ m. nat_lt 0 (length m.0)) ms ≡ true → slice_get ms k ≡ Some m → nat_lt 0 (length m.0) ≡ true
+some-byte : (ms : List (Text × ℕ)) (k : ℕ) (m : Text × ℕ) → list_all (λ m. nat_lt 0 (length m.0)) ms ≡ true → slice_get ms k ≡ Some m
+    → nat_lt 0 (length m.0) ≡ true
 some-byte [] k m e h = absurd (cc)
 some-byte (l ∷ ms) zero m e h = let g : l ≡ m = cc in subst (λ m. nat_lt 0 (length m.0) ≡ true) g (and-first (nat_lt 0 (length l.0)) _ e)
 some-byte (l ∷ ms) (suc k) m e h = some-byte ms k m (and-second (nat_lt 0 (length l.0)) _ e) h
 
 -- a mark of the table
 pub lex-mark : (s : Bool) (at k n : ℕ) (m rest : Text) → slice_get marks k ≡ Some (m, n) → MayFollow n rest
-    → lex_from s at 0 (m ++ rest) ≡ front (record { kind = kind.Mark n; at = at; len = length m } ∷ []) (lex_from (sign_after m (kind.Mark n)) (at + length m) 0 rest)
+    → lex_from s at 0 (m ++ rest) ≡ front (record { kind = kind.Mark n; at = at; len = length m } ∷ [])
+        (lex_from (sign_after m (kind.Mark n)) (at + length m) 0 rest)
 lex-mark s at k n m rest h f =
     lex-piece s at m rest (kind.Mark n) (above (length m) (some-byte marks k (m, n) refl h)) (row marks k (m, n) each-mark h s rest f)
   where

@@ -37,14 +37,16 @@ by_len m k z len = option_map (λ n. (n, k + len)) (int_of m (digits_value (take
 abbrev by_sign : Text → Bool → Option (ℤ × ℕ)
 by_sign z m = let k = (if m then 1 else 0) in by_len m k z (leading class.Digit (drop k z))
 
-by_len-is : (m : Bool) (k v : ℕ) (z ds rest : Text) → drop k z ≡ ds ++ rest → digits_value ds ≡ v → fits m v ≡ true → by_len m k z (length ds) ≡ Some (with_sign m v, k + length ds)
+by_len-is : (m : Bool) (k v : ℕ) (z ds rest : Text) → drop k z ≡ ds ++ rest → digits_value ds ≡ v → fits m v ≡ true
+    → by_len m k z (length ds) ≡ Some (with_sign m v, k + length ds)
 by_len-is m k v z ds rest d h f =
     ap (λ w. option_map (λ n. (n, k + length ds)) (int_of m (digits_value (take (length ds) w)))) d
     ∙ ap (λ w. option_map (λ n. (n, k + length ds)) (int_of m (digits_value w))) (take_at ds rest (length ds) refl)
     ∙ ap (λ w. option_map (λ n. (n, k + length ds)) (int_of m w)) h
     ∙ ap (option_map (λ n. (n, k + length ds))) (taken (fits m v) (Some (with_sign m v)) None f)
 
-unsigned-is : (b v : ℕ) (ds rest : Text) → (b == 45) ≡ false → all_ascii_digits (b ∷ ds) ≡ true → EndsDigits rest → digits_value (b ∷ ds) ≡ v → fits false v ≡ true
+unsigned-is : (b v : ℕ) (ds rest : Text) → (b == 45) ≡ false → all_ascii_digits (b ∷ ds) ≡ true → EndsDigits rest
+    → digits_value (b ∷ ds) ≡ v → fits false v ≡ true
     → number ((b ∷ ds) ++ rest) ≡ Some (with_sign false v, 0 + length (b ∷ ds))
 unfolding number
 unsigned-is b v ds rest m h e g f =
@@ -98,38 +100,51 @@ fits-below v h = grind (arith, nat_tests)
 fits-negative : (v : ℕ) → v ≤ 9223372036854775808 → fits true v ≡ true
 fits-negative v h = grind (arith, nat_tests)
 
-lex-digits : (s : Bool) (at v : ℕ) (ds rest : Text) → 1 ≤ length ds → all_ascii_digits ds ≡ true → digits_value ds ≡ v → v < 9223372036854775808 → EndsDigits rest
-    → lex_from s at 0 (ds ++ rest) ≡ front (record { kind = kind.Int (pos v); at = at; len = length ds } ∷ []) (lex_from false (at + length ds) 0 rest)
+lex-digits : (s : Bool) (at v : ℕ) (ds rest : Text) → 1 ≤ length ds → all_ascii_digits ds ≡ true → digits_value ds ≡ v
+    → v < 9223372036854775808 → EndsDigits rest
+    → lex_from s at 0 (ds ++ rest)
+        ≡ front (record { kind = kind.Int (pos v); at = at; len = length ds } ∷ []) (lex_from false (at + length ds) 0 rest)
 lex-digits s at v [] rest l h g m e = absurd (omega arith)
 lex-digits s at v (b ∷ ds) rest l h g m e =
     let d : is_ascii_digit b ≡ true = and-first (is_ascii_digit b) _ h in
     let n : 0 + length (b ∷ ds) ≡ length (b ∷ ds) = omega arith in
     lex-piece s at (b ∷ ds) rest (kind.Int (pos v)) l
-    (scan-digit s b (ds ++ rest) d ∙ ap number_piece (unsigned-is b v ds rest (digit-minus b d) h e g (fits-below v m)) ∙ ap (piece.Token (kind.Int (pos v))) n)
+    (scan-digit s b (ds ++ rest) d ∙ ap number_piece (unsigned-is b v ds rest (digit-minus b d) h e g (fits-below v m))
+        ∙ ap (piece.Token (kind.Int (pos v))) n)
 
 -- a number that is not negative
 pub lex-decimal : (s : Bool) (at n : ℕ) (rest : Text) → n < 9223372036854775808 → EndsDigits rest
-    → lex_from s at 0 (decimal n ++ rest) ≡ front (record { kind = kind.Int (pos n); at = at; len = length (decimal n) } ∷ []) (lex_from false (at + length (decimal n)) 0 rest)
+    → lex_from s at 0 (decimal n ++ rest)
+        ≡ front (record { kind = kind.Int (pos n); at = at; len = length (decimal n) } ∷ [])
+        (lex_from false (at + length (decimal n)) 0 rest)
 lex-decimal s at n rest h e =
     let k : n < 2 ^ 64 = omega arith in
-    lex-digits s at n (decimal n) rest (omega (arith, decimal_nonempty n k)) (digits_decimal decimal-numerals n k) (digits_value-decimal decimal-numerals n k) h e
+    lex-digits s at n (decimal n) rest (omega (arith, decimal_nonempty n k)) (digits_decimal decimal-numerals n k)
+        (digits_value-decimal decimal-numerals n k) h e
 
-lex-minus : (at n : ℕ) (ds rest : Text) → 1 ≤ length ds → all_ascii_digits ds ≡ true → digits_value ds ≡ suc n → n < 9223372036854775808 → EndsDigits rest
-    → lex_from true at 0 ((45 ∷ ds) ++ rest) ≡ front (record { kind = kind.Int (negsuc n); at = at; len = length (45 ∷ ds) } ∷ []) (lex_from false (at + length (45 ∷ ds)) 0 rest)
+lex-minus : (at n : ℕ) (ds rest : Text) → 1 ≤ length ds → all_ascii_digits ds ≡ true → digits_value ds ≡ suc n → n < 9223372036854775808
+    → EndsDigits rest
+    → lex_from true at 0 ((45 ∷ ds) ++ rest)
+        ≡ front (record { kind = kind.Int (negsuc n); at = at; len = length (45 ∷ ds) } ∷ [])
+        (lex_from false (at + length (45 ∷ ds)) 0 rest)
 lex-minus at n [] rest l h g m e = absurd (omega arith)
 lex-minus at n (b ∷ ds) rest l h g m e =
     let d : is_ascii_digit b ≡ true = and-first (is_ascii_digit b) _ h in
     let k : 1 + length (b ∷ ds) ≡ length (45 ∷ b ∷ ds) = omega arith in
     let f : suc n ≤ 9223372036854775808 = omega arith in
     lex-piece true at (45 ∷ b ∷ ds) rest (kind.Int (negsuc n)) (omega arith)
-    (scan-minus b (ds ++ rest) d ∙ ap number_piece (signed-is (suc n) (b ∷ ds) rest h e g (fits-negative (suc n) f)) ∙ ap (piece.Token (kind.Int (negsuc n))) k)
+    (scan-minus b (ds ++ rest) d ∙ ap number_piece (signed-is (suc n) (b ∷ ds) rest h e g (fits-negative (suc n) f))
+        ∙ ap (piece.Token (kind.Int (negsuc n))) k)
 
 -- a negative number, where a sign may stand: `negsuc n` is one below minus n
 pub lex-negative : (at n : ℕ) (rest : Text) → n < 9223372036854775808 → EndsDigits rest
-    → lex_from true at 0 ((45 ∷ decimal (suc n)) ++ rest) ≡ front (record { kind = kind.Int (negsuc n); at = at; len = length (45 ∷ decimal (suc n)) } ∷ []) (lex_from false (at + length (45 ∷ decimal (suc n))) 0 rest)
+    → lex_from true at 0 ((45 ∷ decimal (suc n)) ++ rest)
+        ≡ front (record { kind = kind.Int (negsuc n); at = at; len = length (45 ∷ decimal (suc n)) } ∷ [])
+        (lex_from false (at + length (45 ∷ decimal (suc n))) 0 rest)
 lex-negative at n rest h e =
     let k : suc n < 2 ^ 64 = omega arith in
-    lex-minus at n (decimal (suc n)) rest (omega (arith, decimal_nonempty (suc n) k)) (digits_decimal decimal-numerals (suc n) k) (digits_value-decimal decimal-numerals (suc n) k) h e
+    lex-minus at n (decimal (suc n)) rest (omega (arith, decimal_nonempty (suc n) k)) (digits_decimal decimal-numerals (suc n) k)
+        (digits_value-decimal decimal-numerals (suc n) k) h e
 
 -- the sign of a negative number may stand here
 abbrev pub MayStand : Bool → ℤ → Type 0
@@ -138,7 +153,9 @@ MayStand s (negsuc n) = (s ≡ true) × (n < 9223372036854775808)
 
 -- a number of 64 bits
 pub lex-number : (s : Bool) (at : ℕ) (i : ℤ) (rest : Text) → MayStand s i → EndsDigits rest
-    → lex_from s at 0 (signed_decimal i ++ rest) ≡ front (record { kind = kind.Int i; at = at; len = length (signed_decimal i) } ∷ []) (lex_from false (at + length (signed_decimal i)) 0 rest)
+    → lex_from s at 0 (signed_decimal i ++ rest)
+        ≡ front (record { kind = kind.Int i; at = at; len = length (signed_decimal i) } ∷ [])
+        (lex_from false (at + length (signed_decimal i)) 0 rest)
 lex-number s at (pos n) rest h e = lex-decimal s at n rest h e
 lex-number s at (negsuc n) rest h e =
     ap (λ t. lex_from t at 0 (signed_decimal (negsuc n) ++ rest)) h.0 ∙ lex-negative at n rest h.1 e

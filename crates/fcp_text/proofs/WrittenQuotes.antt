@@ -30,29 +30,34 @@ twice c b = if c then 39 ∷ 39 ∷ [] else b ∷ []
 closes-there : (at : ℕ) (rest : Text) → EndsQuote rest → closing 39 false at (39 ∷ rest) ≡ Some (at + 1)
 closes-there at rest h = ap (λ c. if not c then Some (at + 1) else closing 39 true (at + 1) rest) h
 
-over-one : (at b : ℕ) (z : Text) (c : Bool) → (b == 39) ≡ c → is_in class.Line b ≡ true → closing 39 false at (twice c b ++ z) ≡ closing 39 false (at + length (twice c b)) z
+over-one : (at b : ℕ) (z : Text) (c : Bool) → (b == 39) ≡ c → is_in class.Line b ≡ true
+    → closing 39 false at (twice c b ++ z) ≡ closing 39 false (at + length (twice c b)) z
 over-one at b z true h l = let e : (at + 1) + 1 ≡ at + 2 = omega arith in ap (λ k. closing 39 false k z) e
 over-one at b z false h l =
-    ap (λ c. if c then None else (if b == 39 && not (slice_index z 0 == 39) then Some (at + 1) else closing 39 (b == 39) (at + 1) z)) (no-feed b l)
+    ap (λ c. if c then None else (if b == 39 && not (slice_index z 0 == 39) then Some (at + 1) else closing 39 (b == 39) (at + 1) z))
+        (no-feed b l)
     ∙ ap (λ c. if c && not (slice_index z 0 == 39) then Some (at + 1) else closing 39 c (at + 1) z) h
   where
     no-feed : (b : ℕ) → is_in class.Line b ≡ true → (b == 10) ≡ false
     no-feed b l = grind (arith, nat_tests)
 
 -- the closing quote is behind the doubled string
-closing-doubled : (at : ℕ) (bs rest : Text) → IsLine bs → EndsQuote rest → closing 39 false at (doubled bs ++ 39 ∷ rest) ≡ Some (at + length (doubled bs) + 1)
+closing-doubled : (at : ℕ) (bs rest : Text) → IsLine bs → EndsQuote rest
+    → closing 39 false at (doubled bs ++ 39 ∷ rest) ≡ Some (at + length (doubled bs) + 1)
 closing-doubled at [] rest l e = let k : at + 1 ≡ at + 0 + 1 = omega arith in closes-there at rest e ∙ ap Some k
 closing-doubled at (b ∷ bs) rest l e =
     let t : Text = twice (b == 39) b in
     let k : (at + length t) + length (doubled bs) + 1 ≡ at + length (t ++ doubled bs) + 1 = omega (arith, length-append t (doubled bs)) in
-    ap (closing 39 false at) (append_assoc t (doubled bs) (39 ∷ rest)) ∙ over-one at b (doubled bs ++ 39 ∷ rest) (b == 39) refl (and-first (is_in class.Line b) _ l)
+    ap (closing 39 false at) (append_assoc t (doubled bs) (39 ∷ rest))
+        ∙ over-one at b (doubled bs ++ 39 ∷ rest) (b == 39) refl (and-first (is_in class.Line b) _ l)
     ∙ closing-doubled (at + length t) bs rest (and-second (is_in class.Line b) _ l) e ∙ ap Some k
 
 -- a string between quotes, each quote in it doubled
 abbrev pub between_quotes : Text → Text
 between_quotes bs = 39 ∷ doubled bs ++ 39 ∷ []
 
-scan-quoted : (s : Bool) (bs rest : Text) → IsLine bs → EndsQuote rest → scan s (between_quotes bs ++ rest) ≡ piece.Token kind.Quoted (length (between_quotes bs))
+scan-quoted : (s : Bool) (bs rest : Text) → IsLine bs → EndsQuote rest
+    → scan s (between_quotes bs ++ rest) ≡ piece.Token kind.Quoted (length (between_quotes bs))
 unfolding scan quoted
 scan-quoted s bs rest l e =
     let k : 1 + length (doubled bs) + 1 ≡ length (between_quotes bs) = omega (arith, length-append (doubled bs) (39 ∷ [])) in
@@ -61,7 +66,9 @@ scan-quoted s bs rest l e =
 
 -- a quoted string on one line
 pub lex-quoted : (s : Bool) (at : ℕ) (bs rest : Text) → IsLine bs → EndsQuote rest
-    → lex_from s at 0 (between_quotes bs ++ rest) ≡ front (record { kind = kind.Quoted; at = at; len = length (between_quotes bs) } ∷ []) (lex_from false (at + length (between_quotes bs)) 0 rest)
+    → lex_from s at 0 (between_quotes bs ++ rest)
+        ≡ front (record { kind = kind.Quoted; at = at; len = length (between_quotes bs) } ∷ [])
+        (lex_from false (at + length (between_quotes bs)) 0 rest)
 lex-quoted s at bs rest l e = lex-piece s at (between_quotes bs) rest kind.Quoted (omega arith) (scan-quoted s bs rest l e)
 
 single : (b : ℕ) (z w : Text) (c : Bool) → (b == 39) ≡ c → without_quotes 39 false z ≡ w → without_quotes 39 false (twice c b ++ z) ≡ b ∷ w
@@ -74,7 +81,8 @@ single b z w false h e = ap (λ c. if c then without_quotes 39 true z else b ∷
 without-doubled : (bs : Text) → without_quotes 39 false (doubled bs ++ 39 ∷ []) ≡ bs
 without-doubled [] = refl
 without-doubled (b ∷ bs) =
-    ap (without_quotes 39 false) (append_assoc (twice (b == 39) b) (doubled bs) (39 ∷ [])) ∙ single b (doubled bs ++ 39 ∷ []) bs (b == 39) refl (without-doubled bs)
+    ap (without_quotes 39 false) (append_assoc (twice (b == 39) b) (doubled bs) (39 ∷ []))
+        ∙ single b (doubled bs ++ 39 ∷ []) bs (b == 39) refl (without-doubled bs)
 
 -- the string of such a token is the string that was written
 pub unquoted-between_quotes : (bs : Text) → unquoted (between_quotes bs) ≡ bs
@@ -87,12 +95,14 @@ string_kind bs = if is_name bs then kind.Name else kind.Quoted
 lex-by_form : (s c : Bool) (at : ℕ) (bs rest : Text) → is_name bs ≡ c → IsLine bs → EndsWord rest → EndsQuote rest
     → lex_from s at 0 ((if c then bs else between_quotes bs) ++ rest)
     ≡ front (record { kind = if c then kind.Name else kind.Quoted; at = at; len = length (if c then bs else between_quotes bs) } ∷ [])
-    (lex_from (sign_after (if c then bs else between_quotes bs) (if c then kind.Name else kind.Quoted)) (at + length (if c then bs else between_quotes bs)) 0 rest)
+    (lex_from (sign_after (if c then bs else between_quotes bs) (if c then kind.Name else kind.Quoted))
+        (at + length (if c then bs else between_quotes bs)) 0 rest)
 lex-by_form s true at bs rest h l e f = lex-name s at bs rest h e
 lex-by_form s false at bs rest h l e f = lex-quoted s at bs rest l f
 
 -- a string without line feeds, as it is written
 pub lex-string : (s : Bool) (at : ℕ) (bs rest : Text) → IsLine bs → EndsWord rest → EndsQuote rest
     → lex_from s at 0 (string_text bs ++ rest)
-    ≡ front (record { kind = string_kind bs; at = at; len = length (string_text bs) } ∷ []) (lex_from (sign_after (string_text bs) (string_kind bs)) (at + length (string_text bs)) 0 rest)
+    ≡ front (record { kind = string_kind bs; at = at; len = length (string_text bs) } ∷ [])
+        (lex_from (sign_after (string_text bs) (string_kind bs)) (at + length (string_text bs)) 0 rest)
 lex-string s at bs rest l e f = lex-by_form s (is_name bs) at bs rest refl l e f

@@ -9,6 +9,10 @@ use Rattle.fcp_text.specs.declared.bytes.Class.TheVariants as class
 abbrev pub Text : Type 0
 Text = List ℕ
 
+-- the most bytes of a text that is read
+abbrev pub most_bytes : ℕ
+most_bytes = 1048576
+
 -- space, tab, carriage return and line feed
 abbrev pub is_blank : ℕ → Bool
 is_blank b = b == 32 || b == 9 || b == 13 || b == 10

@@ -1,4 +1,5 @@
 pub mod Bytes
+pub mod Signs
 pub mod Marks
 pub mod Numbers
 pub mod QuotedStrings

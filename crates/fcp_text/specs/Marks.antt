@@ -2,15 +2,20 @@
 use Rattle.std.specs.Prelude.{◌≢◌, ◌≤◌, ℕ, nat_eq, List, [], ◌∷◌, length, Option, option_map, find, codes}
 use Rattle.std.specs.List.{starts_with}
 use Rattle.fcp_text.specs.Bytes.{Text}
+use Rattle.fcp_text.specs.Signs as signs
 
 -- each mark with its number, a longer one before a shorter one
 abbrev pub marks : List (Text × ℕ)
 marks =
-    (codes "\\==", 14) ∷ (codes "=:=", 19) ∷ (codes "=\\=", 20)
-    ∷ (codes ":-", 10) ∷ (codes ":=", 11) ∷ (codes "==", 13) ∷ (codes "=<", 16) ∷ (codes ">=", 18)
-    ∷ (codes "(", 0) ∷ (codes ")", 1) ∷ (codes "[", 2) ∷ (codes "]", 3) ∷ (codes "{", 4) ∷ (codes "}", 5) ∷ (codes "|", 6)
-    ∷ (codes ",", 7) ∷ (codes ".", 8) ∷ (codes "?", 9) ∷ (codes "=", 12) ∷ (codes "<", 15) ∷ (codes ">", 17)
-    ∷ (codes "+", 21) ∷ (codes "-", 22) ∷ (codes "*", 23) ∷ (codes "/", 24) ∷ (codes ":", 25) ∷ (codes "#", 26) ∷ []
+    (codes "\\==", signs.not_same) ∷ (codes "=:=", signs.equal) ∷ (codes "=\\=", signs.not_equal)
+    ∷ (codes ":-", signs.if_sign) ∷ (codes ":=", signs.assign) ∷ (codes "==", signs.same)
+    ∷ (codes "=<", signs.at_most) ∷ (codes ">=", signs.at_least)
+    ∷ (codes "(", signs.round_open) ∷ (codes ")", signs.round_close) ∷ (codes "[", signs.square_open) ∷ (codes "]", signs.square_close)
+    ∷ (codes "{", signs.curly_open) ∷ (codes "}", signs.curly_close) ∷ (codes "|", signs.bar) ∷ (codes ",", signs.comma)
+    ∷ (codes ".", signs.dot) ∷ (codes "?", signs.question)
+    ∷ (codes "=", signs.equals) ∷ (codes "<", signs.less) ∷ (codes ">", signs.greater)
+    ∷ (codes "+", signs.plus) ∷ (codes "-", signs.minus) ∷ (codes "*", signs.times) ∷ (codes "/", signs.divide)
+    ∷ (codes ":", signs.colon) ∷ (codes "#", signs.hash) ∷ []
 
 -- the first of the table, and so the longest, that a text begins with, as its number and its length
 abbrev pub mark_in : List (Text × ℕ) → Text → Option (ℕ × ℕ)

@@ -46,7 +46,8 @@ module _ (names : List Bytes) where
   text_step (Term-F.Int n) = no_list false (signed_decimal n)
   text_step (Term-F.Str s) = no_list true (string_text (name_at names s.0))
   text_step Term-F.Nil = record { alone = codes "[]"; as_rest = codes "]"; is_string = false }
-  text_step (Term-F.Cons h t) = record { alone = codes "[" ++ h.alone ++ t.as_rest; as_rest = codes "," ++ h.alone ++ t.as_rest; is_string = false }
+  text_step (Term-F.Cons h t) =
+      record { alone = codes "[" ++ h.alone ++ t.as_rest; as_rest = codes "," ++ h.alone ++ t.as_rest; is_string = false }
   text_step (Term-F.Tuple ts) = no_list false (tuple_of ts)
   text_step (Term-F.Var k) = no_list false (codes "V" ++ decimal k)
   text_step (Term-F.Ro k) = no_list false (codes "V" ++ decimal k ++ codes "?")

@@ -13,6 +13,7 @@ use Rattle.fcp_text.specs.declared.pieces.Piece.TheVariants as piece
 use Rattle.fcp_text.specs.declared.lexer.Token.{Token}
 use Rattle.fcp_text.specs.Bytes.{Text}
 use Rattle.fcp_text.specs.Pieces.{scan}
+use Rattle.fcp_text.specs.Signs as signs
 
 -- the bytes of a token of the text
 abbrev pub text_of : Text → Token → Text
@@ -24,7 +25,7 @@ sign_after text kind.Name = bytes_eq text (codes "mod")
 sign_after text kind.Quoted = false
 sign_after text kind.Variable = false
 sign_after text (kind.Int n) = false
-sign_after text (kind.Mark m) = not (m == 1 || m == 3 || m == 5 || m == 9)
+sign_after text (kind.Mark m) = not (m == signs.round_close || m == signs.square_close || m == signs.curly_close || m == signs.question)
 
 -- all tokens, or the first fault
 abbrev pub Outcome : Type 0

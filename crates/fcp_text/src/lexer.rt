@@ -1,10 +1,15 @@
 //! The tokens of a text.
 ghost use Rattle.std.specs.Prelude.{◌≡◌, ◌≤◌, [], ◌∷◌, ◌++◌, length, IfOk};
+ghost use Rattle.fcp_text.specs.Bytes.{most_bytes};
 ghost use Rattle.fcp_text.specs.Tokens as spec;
 
+use crate::mark;
 use crate::pieces::{Kind, Piece, scan};
 use fcp_model::{Code, Fault, NoMemory, Refused, Seq};
 use std::alloc::Global;
+
+/// The most bytes of a text that is read.
+pub const MOST_BYTES: usize = 1_048_576;
 
 /// A token of a text.
 #[derive(Clone, Copy, Debug, PartialEq, Eq)]
@@ -23,23 +28,16 @@ fn sign_after(text: &[u8], kind: Kind) -> bool
     match kind {
         Kind::Name => text == b"mod".as_slice(),
         Kind::Quoted | Kind::Variable | Kind::Int(_) => false,
-        Kind::Mark(number) => !(number == 1 || number == 3 || number == 5 || number == 9),
-    }
-}
-
-fn with(found: Seq<Token>, token: Token) -> Result<Seq<Token>, NoMemory>
-    ensures { IfOk result (λ v. v ≡ found ++ token ∷ []) }
-{
-    let mut found = found;
-    match found.push(token) {
-        Ok(()) => Ok(found),
-        Err(_) => Err(NoMemory),
+        Kind::Mark(number) => !matches!(
+            number,
+            mark::ROUND_CLOSE | mark::SQUARE_CLOSE | mark::CURLY_CLOSE | mark::QUESTION
+        ),
     }
 }
 
 /// The tokens of a text that is known to be UTF-8.
 fn tokens_in(alloc: Global, bytes: &[u8]) -> Result<Seq<Token>, Refused>
-    requires { length bytes.now ≤ 1048576 }
+    requires { length bytes.now ≤ most_bytes }
     ensures { spec.Lexes (spec.tokens_in bytes.now) result }
 {
     let mut found = Seq::empty(alloc);
@@ -55,7 +53,7 @@ fn tokens_in(alloc: Global, bytes: &[u8]) -> Result<Seq<Token>, Refused>
                     at: at as u32,
                     len: len as u32,
                 };
-                let Ok(more) = with(found, token) else {
+                let Ok(more) = found.with(token) else {
                     return Err(Refused::NoMemory(NoMemory));
                 };
                 found = more;
@@ -76,7 +74,7 @@ fn tokens_in(alloc: Global, bytes: &[u8]) -> Result<Seq<Token>, Refused>
 /// byte), a quote that the text's end or a line feed leaves open (at the quote), and a number out of 64 bits (at its first
 /// byte). Each byte is read at most a few times.
 pub fn tokens(alloc: Global, bytes: &[u8]) -> Result<Seq<Token>, Refused>
-    requires { length bytes.now ≤ 1048576 }
+    requires { length bytes.now ≤ most_bytes }
     ensures { spec.Lexes (spec.tokens_of bytes.now) result }
 {
     match str::from_utf8(bytes) {

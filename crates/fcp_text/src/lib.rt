@@ -4,6 +4,7 @@
 mod bytes;
 mod laws;
 mod lexer;
+pub mod mark;
 mod marks;
 mod numbers;
 mod pieces;
@@ -17,7 +18,7 @@ mod write_items;
 mod write_terms;
 
 pub use laws::{tokens_are_few, tokens_are_spelled_well, tokens_stand_in_order};
-pub use lexer::{Token, tokens};
+pub use lexer::{MOST_BYTES, Token, tokens};
 pub use pieces::Kind;
 pub use write_clauses::{write_clause, write_module};
 pub use write_terms::write_term;

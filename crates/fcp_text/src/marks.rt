@@ -1,8 +1,9 @@
-//! Marks: signs of one to three bytes, numbered as `Kind::Mark` says.
+//! Marks: signs of one to three bytes, by their numbers.
 ghost use Rattle.std.specs.Prelude.{◌≡◌, ◌<◌, ◌≤◌, [], ◌∷◌, length, IfSome};
 ghost use Rattle.fcp_text.specs.Marks as spec;
 
 use crate::bytes::byte_at;
+use crate::mark;
 
 /// The number and the length of the longest mark at the front of a text that is not empty.
 pub fn mark(text: &[u8]) -> Option<(u8, usize)>
@@ -20,33 +21,33 @@ fn mark_of(first: u8, second: u8, third: u8) -> Option<(u8, usize)>
     ensures short { IfSome result (λ m. spec.IsShort second third m.1) }
 {
     match (first, second, third) {
-        (b'\\', b'=', b'=') => Some((14, 3)),
-        (b'=', b':', b'=') => Some((19, 3)),
-        (b'=', b'\\', b'=') => Some((20, 3)),
-        (b':', b'-', _) => Some((10, 2)),
-        (b':', b'=', _) => Some((11, 2)),
-        (b'=', b'=', _) => Some((13, 2)),
-        (b'=', b'<', _) => Some((16, 2)),
-        (b'>', b'=', _) => Some((18, 2)),
-        (b'(', _, _) => Some((0, 1)),
-        (b')', _, _) => Some((1, 1)),
-        (b'[', _, _) => Some((2, 1)),
-        (b']', _, _) => Some((3, 1)),
-        (b'{', _, _) => Some((4, 1)),
-        (b'}', _, _) => Some((5, 1)),
-        (b'|', _, _) => Some((6, 1)),
-        (b',', _, _) => Some((7, 1)),
-        (b'.', _, _) => Some((8, 1)),
-        (b'?', _, _) => Some((9, 1)),
-        (b'=', _, _) => Some((12, 1)),
-        (b'<', _, _) => Some((15, 1)),
-        (b'>', _, _) => Some((17, 1)),
-        (b'+', _, _) => Some((21, 1)),
-        (b'-', _, _) => Some((22, 1)),
-        (b'*', _, _) => Some((23, 1)),
-        (b'/', _, _) => Some((24, 1)),
-        (b':', _, _) => Some((25, 1)),
-        (b'#', _, _) => Some((26, 1)),
+        (b'\\', b'=', b'=') => Some((mark::NOT_SAME, 3)),
+        (b'=', b':', b'=') => Some((mark::EQUAL, 3)),
+        (b'=', b'\\', b'=') => Some((mark::NOT_EQUAL, 3)),
+        (b':', b'-', _) => Some((mark::IF, 2)),
+        (b':', b'=', _) => Some((mark::ASSIGN, 2)),
+        (b'=', b'=', _) => Some((mark::SAME, 2)),
+        (b'=', b'<', _) => Some((mark::AT_MOST, 2)),
+        (b'>', b'=', _) => Some((mark::AT_LEAST, 2)),
+        (b'(', _, _) => Some((mark::ROUND_OPEN, 1)),
+        (b')', _, _) => Some((mark::ROUND_CLOSE, 1)),
+        (b'[', _, _) => Some((mark::SQUARE_OPEN, 1)),
+        (b']', _, _) => Some((mark::SQUARE_CLOSE, 1)),
+        (b'{', _, _) => Some((mark::CURLY_OPEN, 1)),
+        (b'}', _, _) => Some((mark::CURLY_CLOSE, 1)),
+        (b'|', _, _) => Some((mark::BAR, 1)),
+        (b',', _, _) => Some((mark::COMMA, 1)),
+        (b'.', _, _) => Some((mark::DOT, 1)),
+        (b'?', _, _) => Some((mark::QUESTION, 1)),
+        (b'=', _, _) => Some((mark::EQUALS, 1)),
+        (b'<', _, _) => Some((mark::LESS, 1)),
+        (b'>', _, _) => Some((mark::GREATER, 1)),
+        (b'+', _, _) => Some((mark::PLUS, 1)),
+        (b'-', _, _) => Some((mark::MINUS, 1)),
+        (b'*', _, _) => Some((mark::TIMES, 1)),
+        (b'/', _, _) => Some((mark::DIVIDE, 1)),
+        (b':', _, _) => Some((mark::COLON, 1)),
+        (b'#', _, _) => Some((mark::HASH, 1)),
         _ => None,
     }
 }

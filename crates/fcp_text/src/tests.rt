@@ -1,4 +1,4 @@
-use crate::{Kind, Token, tokens};
+use crate::{Kind, Token, mark, tokens};
 use fcp_model::Refused;
 use std::alloc::Global;
 use std::fmt::Write;
@@ -261,7 +261,7 @@ fn a_text_of_the_greatest_length_is_cut(rt: HostRuntime) -> Result<(), Fail> {
     assert_eq!(rt; found.len(), 8 * 65536);
     let last = found.get(8 * 65536 - 1).ok_or("no last token")?;
     let want = Token {
-        kind: Kind::Mark(10),
+        kind: Kind::Mark(mark::IF),
         at: 1048572,
         len: 2,
     };

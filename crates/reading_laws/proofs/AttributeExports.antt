@@ -10,22 +10,23 @@ use Rattle.fcp_model.specs.NameList.{number_of}
 use Rattle.fcp_model.specs.Spelling.{name_at}
 use Rattle.fcp_text.specs.Bytes.{Text}
 use Rattle.fcp_text.proofs.Choices.{and-first, and-second}
-use Rattle.fcp_grammar.specs.declared.words.StringForm.{StringForm}
-use Rattle.fcp_grammar.specs.declared.words.Word.TheVariants as W
+use Rattle.fcp_grammar.specs.declared.terminals.StringForm.{StringForm}
+use Rattle.fcp_grammar.specs.declared.terminals.Terminal.TheVariants as terminal
 use Rattle.fcp_grammar.specs.Grammar.{Marked, plain}
-use Rattle.fcp_words.specs.MarkWords.{mark_word}
-use Rattle.fcp_words.specs.Numbering.{Grows}
+use Rattle.fcp_terminals.specs.MarkTerminals.{mark_terminal}
+use Rattle.fcp_terminals.specs.Numbering.{Grows}
 use Rattle.fcp_reader.specs.ModuleValues.{is_no_arity, arity_of}
 use Rattle.fcp_reader.specs.AttributeGrammar.{SpecTree, spec, spec_value, spell_spec, SpecTrees, no_specs, and_spec, spec_values, spell_specs, Listing, nothing_listed, listing, listing_value, spell_listing}
 use Rattle.text_laws.specs.TermSpellings.{Writing, each_after, parted_by, comma}
 use Rattle.text_laws.specs.Spellings.{string, number, mark}
 use Rattle.text_laws.specs.SourceSpellings.{spelled_export}
-use Rattle.reading_laws.specs.PieceWords.{Position, string_form, behind_piece}
+use Rattle.reading_laws.specs.PieceTerminals.{Position, string_form, behind_piece}
 use Rattle.reading_laws.specs.Alike.{string_with, export_with, by_text}
 use Rattle.reading_laws.proofs.Following.{Follows, then, grows-on}
 use Rattle.reading_laws.proofs.TreePieces.{string-follows, number-follows, mark-follows, none-follows}
-use Rattle.reading_laws.proofs.ClausePieces.{follows-as, comma-word}
+use Rattle.reading_laws.proofs.ClausePieces.{follows-as, comma-terminal}
 use Rattle.reading_laws.proofs.ClauseReading.{string_of, string-same}
+use Rattle.fcp_text.specs.Signs as signs
 
 -- ---- numbers of arguments
 
@@ -51,23 +52,24 @@ arity-same n h = rw (is-arity n h) refl
 -- elements with a comma before each
 abbrev pub spell_more_specs : List SpecTree → List Marked → List Marked
 spell_more_specs [] rest = rest
-spell_more_specs (t ∷ ts) rest = plain W.Comma ∷ spell_spec t (spell_more_specs ts rest)
+spell_more_specs (t ∷ ts) rest = plain terminal.Comma ∷ spell_spec t (spell_more_specs ts rest)
 
 -- the same with an element before them, as a list of the grammar
 pub record SpecsListed (front : SpecTrees) (last : SpecTree) (ts : List SpecTree) : Type 0 where
   pub others : SpecTrees
   pub end : SpecTree
-  pub words : (rest : List Marked) → spell_specs front (spell_spec last (spell_more_specs ts rest)) ≡ spell_specs others (spell_spec end rest)
+  pub terminals : (rest : List Marked)
+      → spell_specs front (spell_spec last (spell_more_specs ts rest)) ≡ spell_specs others (spell_spec end rest)
   pub values : spec_values others ++ spec_value end ∷ [] ≡ (spec_values front ++ spec_value last ∷ []) ++ map spec_value ts
 
 pub specs-listed : (front : SpecTrees) (last : SpecTree) (ts : List SpecTree) → SpecsListed front last ts
-specs-listed front last [] = record { others = front; end = last; words = λ rest. refl; values = sym (append-nil _) }
+specs-listed front last [] = record { others = front; end = last; terminals = λ rest. refl; values = sym (append-nil _) }
 specs-listed front last (t ∷ ts) =
     let l : SpecsListed (and_spec front last) t ts = specs-listed (and_spec front last) t ts in
     record {
       others = l.others;
       end = l.end;
-      words = l.words;
+      terminals = l.terminals;
       values = l.values ∙ append_assoc (spec_values front ++ spec_value last ∷ []) (spec_value t ∷ []) (map spec_value ts);
     }
 
@@ -77,15 +79,18 @@ pub record ExportReads (names : List Text) (e : Export) (p : Position) : Type 0 
   pub tree : SpecTree
   pub after : Position
   pub follows : Follows (spelled_export names e) [] (spell_spec tree) p after
-  pub same : (final : List Text) (g : Text → ℕ) → Grows after.names final → export_with (by_text g final) (spec_value tree) ≡ export_with (by_text g names) e
+  pub same : (final : List Text) (g : Text → ℕ) → Grows after.names final
+      → export_with (by_text g final) (spec_value tree) ≡ export_with (by_text g names) e
 
-slash-word : (at n : ℕ) → mark_word at n 24 ≡ W.Operator Div at
-unfolding mark_word
-slash-word at n = refl
+slash-terminal : (at n : ℕ) → mark_terminal at n signs.divide ≡ terminal.Operator Div at
+unfolding mark_terminal
+slash-terminal at n = refl
 
-spec-words : (s : Sym) (form : StringForm) (at d : ℕ) (n : ℤ) (i : ℕ) → is_no_arity n ≡ false → (rest : List Marked)
-    → plain (W.Str s form at) ∷ plain (W.Operator Div d) ∷ plain (W.Int n i) ∷ rest ≡ spell_spec (spec s form at d n i) rest
-spec-words s form at d n i h rest = ap (λ m. plain (W.Str s form at) ∷ plain (W.Operator Div d) ∷ (W.Int n i, m) ∷ rest) (sym h)
+spec-terminals : (s : Sym) (form : StringForm) (at d : ℕ) (n : ℤ) (i : ℕ) → is_no_arity n ≡ false → (rest : List Marked)
+    → plain (terminal.Str s form at) ∷ plain (terminal.Operator Div d) ∷ plain (terminal.Int n i) ∷ rest
+        ≡ spell_spec (spec s form at d n i) rest
+spec-terminals s form at d n i h rest =
+    ap (λ m. plain (terminal.Str s form at) ∷ plain (terminal.Operator Div d) ∷ (terminal.Int n i, m) ∷ rest) (sym h)
 
 -- an export at no place
 abbrev made : Sym → ℕ → Export
@@ -96,18 +101,26 @@ export-reads names e p h =
     let bs : Text = name_at names e.name.0 in
     let s : Sym = string_of (number_of p.names bs) in
     let a : Position = behind_piece p (string bs) in
-    let b : Position = behind_piece a (mark 24) in
+    let b : Position = behind_piece a (mark signs.divide) in
     let d : Position = behind_piece b (number (pos e.arity)) in
-    let f : Follows (spelled_export names e) [] (λ rest. plain (W.Str s (string_form bs) p.at) ∷ plain (W.Operator Div a.at) ∷ plain (W.Int (pos e.arity) b.at) ∷ rest) p d =
-    (then) (λ ps. string bs ∷ ps) (λ ps. mark 24 ∷ number (pos e.arity) ∷ ps) [] [] (λ rest. plain (W.Str s (string_form bs) p.at) ∷ rest)
-    (λ rest. plain (W.Operator Div a.at) ∷ plain (W.Int (pos e.arity) b.at) ∷ rest) p a d (string-follows p bs)
-    ((then) (λ ps. mark 24 ∷ ps) (λ ps. number (pos e.arity) ∷ ps) [] [] (λ rest. plain (W.Operator Div a.at) ∷ rest) (λ rest. plain (W.Int (pos e.arity) b.at) ∷ rest) a b d
-    (mark-follows a 24 (W.Operator Div a.at) (slash-word a.at a.count) refl) (number-follows b (pos e.arity))) in
+    let f : Follows (spelled_export names e) []
+        (λ rest. plain (terminal.Str s (string_form bs) p.at) ∷ plain (terminal.Operator Div a.at) ∷ plain (terminal.Int (pos e.arity) b.at)
+        ∷ rest) p d =
+    (then) (λ ps. string bs ∷ ps) (λ ps. mark signs.divide ∷ number (pos e.arity) ∷ ps) [] []
+        (λ rest. plain (terminal.Str s (string_form bs) p.at) ∷ rest)
+    (λ rest. plain (terminal.Operator Div a.at) ∷ plain (terminal.Int (pos e.arity) b.at) ∷ rest) p a d (string-follows p bs)
+    ((then) (λ ps. mark signs.divide ∷ ps) (λ ps. number (pos e.arity) ∷ ps) [] [] (λ rest. plain (terminal.Operator Div a.at) ∷ rest)
+        (λ rest. plain (terminal.Int (pos e.arity) b.at) ∷ rest) a b d
+    (mark-follows a signs.divide (terminal.Operator Div a.at) (slash-terminal a.at a.count) refl) (number-follows b (pos e.arity))) in
     record {
       tree = spec s (string_form bs) p.at a.at (pos e.arity) b.at;
       after = d;
-      follows = follows-as (spelled_export names e) [] _ (spell_spec (spec s (string_form bs) p.at a.at (pos e.arity) b.at)) p d (spec-words s (string_form bs) p.at a.at (pos e.arity) b.at (is-arity e.arity h)) f;
-      same = λ final g w. ap (λ n. made (string_with (by_text g final) s) n) (arity-same e.arity h) ∙ ap (λ t. made t e.arity) (string-same names p.names final e.name g w);
+      follows =
+          follows-as (spelled_export names e) [] _ (spell_spec (spec s (string_form bs) p.at a.at (pos e.arity) b.at)) p d
+          (spec-terminals s (string_form bs) p.at a.at (pos e.arity) b.at (is-arity e.arity h)) f;
+      same =
+          λ final g w. ap (λ n. made (string_with (by_text g final) s) n) (arity-same e.arity h)
+          ∙ ap (λ t. made t e.arity) (string-same names p.names final e.name g w);
     }
 
 -- elements behind the first
@@ -115,12 +128,14 @@ pub record MoreExports (names : List Text) (es : List Export) (p : Position) : T
   pub trees : List SpecTree
   pub after : Position
   pub follows : Follows (each_after comma (map (spelled_export names) es)) [] (spell_more_specs trees) p after
-  pub same : (final : List Text) (g : Text → ℕ) → Grows after.names final → map (export_with (by_text g final)) (map spec_value trees) ≡ map (export_with (by_text g names)) es
+  pub same : (final : List Text) (g : Text → ℕ) → Grows after.names final
+      → map (export_with (by_text g final)) (map spec_value trees) ≡ map (export_with (by_text g names)) es
 
-more-exports : (names : List Text) (es : List Export) (p : Position) → list_all (λ (e : Export). nat_le e.arity 64) es ≡ true → MoreExports names es p
+more-exports : (names : List Text) (es : List Export) (p : Position) → list_all (λ (e : Export). nat_le e.arity 64) es ≡ true
+    → MoreExports names es p
 more-exports names [] p h = record { trees = []; after = p; follows = none-follows p; same = λ final g w. refl }
 more-exports names (e ∷ es) p h =
-    let a : Position = behind_piece p (mark 7) in
+    let a : Position = behind_piece p (mark signs.comma) in
     let x : ExportReads names e a = export-reads names e a (and-first (nat_le e.arity 64) _ h) in
     let y : MoreExports names es x.after = more-exports names es x.after (and-second (nat_le e.arity 64) _ h) in
     let w : Writing = each_after comma (map (spelled_export names) es) in
@@ -128,11 +143,13 @@ more-exports names (e ∷ es) p h =
       trees = x.tree ∷ y.trees;
       after = y.after;
       follows =
-          (then) comma (λ ps. spelled_export names e (w ps)) [] [] (λ rest. plain W.Comma ∷ rest) (λ rest. spell_spec x.tree (spell_more_specs y.trees rest)) p a y.after
-          (mark-follows p 7 W.Comma (comma-word p.at p.count) refl)
+          (then) comma (λ ps. spelled_export names e (w ps)) [] [] (λ rest. plain terminal.Comma ∷ rest)
+              (λ rest. spell_spec x.tree (spell_more_specs y.trees rest)) p a y.after
+          (mark-follows p signs.comma terminal.Comma (comma-terminal p.at p.count) refl)
           ((then) (spelled_export names e) w [] [] (spell_spec x.tree) (spell_more_specs y.trees) a x.after y.after x.follows y.follows);
       same = λ final g v.
-          ap (λ z. z ∷ map (export_with (by_text g final)) (map spec_value y.trees)) (x.same final g (grows-on x.after.names y.after.names final y.follows.grows v))
+          ap (λ z. z ∷ map (export_with (by_text g final)) (map spec_value y.trees))
+              (x.same final g (grows-on x.after.names y.after.names final y.follows.grows v))
           ∙ ap (λ zs. export_with (by_text g names) e ∷ zs) (y.same final g v);
     }
 
@@ -141,9 +158,11 @@ pub record ExportsRead (names : List Text) (es : List Export) (p : Position) : T
   pub tree : Listing
   pub after : Position
   pub follows : Follows (parted_by comma (map (spelled_export names) es)) [] (spell_listing tree) p after
-  pub same : (final : List Text) (g : Text → ℕ) → Grows after.names final → map (export_with (by_text g final)) (listing_value tree) ≡ map (export_with (by_text g names)) es
+  pub same : (final : List Text) (g : Text → ℕ) → Grows after.names final
+      → map (export_with (by_text g final)) (listing_value tree) ≡ map (export_with (by_text g names)) es
 
-pub exports-read : (names : List Text) (es : List Export) (p : Position) → list_all (λ (e : Export). nat_le e.arity 64) es ≡ true → ExportsRead names es p
+pub exports-read : (names : List Text) (es : List Export) (p : Position) → list_all (λ (e : Export). nat_le e.arity 64) es ≡ true
+    → ExportsRead names es p
 exports-read names [] p h = record { tree = nothing_listed; after = p; follows = none-follows p; same = λ final g w. refl }
 exports-read names (e ∷ es) p h =
     let x : ExportReads names e p = export-reads names e p (and-first (nat_le e.arity 64) _ h) in
@@ -155,9 +174,12 @@ exports-read names (e ∷ es) p h =
     record {
       tree = listing l.others l.end;
       after = y.after;
-      follows = follows-as (parted_by comma (map (spelled_export names) (e ∷ es))) [] _ (spell_listing (listing l.others l.end)) p y.after l.words f;
+      follows =
+          follows-as (parted_by comma (map (spelled_export names) (e ∷ es))) [] _
+          (spell_listing (listing l.others l.end)) p y.after l.terminals f;
       same = λ final g v.
           ap (map (export_with (by_text g final))) l.values
-          ∙ ap (λ z. z ∷ map (export_with (by_text g final)) (map spec_value y.trees)) (x.same final g (grows-on x.after.names y.after.names final y.follows.grows v))
+          ∙ ap (λ z. z ∷ map (export_with (by_text g final)) (map spec_value y.trees))
+              (x.same final g (grows-on x.after.names y.after.names final y.follows.grows v))
           ∙ ap (λ zs. export_with (by_text g names) e ∷ zs) (y.same final g v);
     }

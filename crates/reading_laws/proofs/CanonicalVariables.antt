@@ -9,10 +9,10 @@ use Rattle.std.proofs.lemmas.List.Folds.{position_or_len_push}
 use Rattle.std.proofs.lemmas.Slice.Eq.{bytes_eq-Decides}
 use Rattle.fcp_text.specs.Bytes.{Text}
 use Rattle.fcp_text.proofs.Choices.{and-first, and-second}
-use Rattle.fcp_words.specs.declared.variables.Form.TheVariants.{Module}
-use Rattle.fcp_words.specs.declared.variables.Variable.{Variable}
-use Rattle.fcp_words.specs.Numbering.{env, find, number, number_by, variable_by, with_variable}
-use Rattle.reading_laws.specs.PieceWords.{with_number, is_next}
+use Rattle.fcp_terminals.specs.declared.variables.Form.TheVariants.{Module}
+use Rattle.fcp_terminals.specs.declared.variables.Variable.{Variable}
+use Rattle.fcp_terminals.specs.Numbering.{env, find, number, number_by, variable_by, with_variable}
+use Rattle.reading_laws.specs.PieceTerminals.{with_number, is_next}
 
 -- the k-th variable's text, and the variable
 abbrev pub numbered_text : ℕ → Text
@@ -47,7 +47,9 @@ other j k p q l = by (is k (numbered j)) refl
   where
     by : (c : Bool) → is k (numbered j) ≡ c → c ≡ false
     by false e = refl
-    by true e = let same : j ≡ k = decimal_injective j k (below j p) (below k q) (ap (drop 1) ((bytes_eq-Decides (numbered_text j) (numbered_text k)).0 e)) in absurd (omega arith)
+    by true e =
+        let same : j ≡ k = decimal_injective j k (below j p) (below k q)
+        (ap (drop 1) ((bytes_eq-Decides (numbered_text j) (numbered_text k)).0 e)) in absurd (omega arith)
 
 -- its place once one more variable is there
 pushed : (n m k : ℕ) (c : Bool) → position_or_len (is k) (canonical n) ≡ m → is k (numbered (suc n)) ≡ c
@@ -70,7 +72,9 @@ place-known zero k l q = absurd (omega arith)
 place-known (suc n) k l q = ⊎_elim last (λ h. before (place-known n k h (omega arith)) h) (eq-or-lt_of_le (omega arith))
   where
     last : k ≡ n → position_or_len (is (suc k)) (canonical (suc n)) ≡ k
-    last e = subst (λ j. position_or_len (is (suc j)) (canonical (suc n)) ≡ j) (sym e) (pushed n n (suc n) true (place-new n (suc n) (omega arith) q) (is-it (suc n)) ∙ grind (arith, nat_tests))
+    last e =
+        subst (λ j. position_or_len (is (suc j)) (canonical (suc n)) ≡ j) (sym e)
+        (pushed n n (suc n) true (place-new n (suc n) (omega arith) q) (is-it (suc n)) ∙ grind (arith, nat_tests))
 
     before : position_or_len (is (suc k)) (canonical n) ≡ k → k < n → position_or_len (is (suc k)) (canonical (suc n)) ≡ k
     before e h = pushed n k (suc k) (is (suc k) (numbered (suc n))) e refl ∙ grind (arith, nat_tests)
@@ -95,14 +99,16 @@ number-new : (n : ℕ) → suc n ≤ 250 → number (canonical n) (numbered_text
 unfolding number
 number-new n q = ap (number_by (canonical n)) (find-new n q) ∙ omega (arith, length-canonical n)
 
-with-known : (ns : List Text) (n k : ℕ) → k < n → n ≤ 250 → with_variable Module (env ns (canonical n)) (numbered_text (suc k)) ≡ env ns (canonical n)
+with-known : (ns : List Text) (n k : ℕ) → k < n → n ≤ 250
+    → with_variable Module (env ns (canonical n)) (numbered_text (suc k)) ≡ env ns (canonical n)
 unfolding with_variable
 with-known ns n k l q = ap (variable_by Module (env ns (canonical n)) (numbered_text (suc k))) (find-known n k l q)
 
 room : (n : ℕ) → suc n ≤ 250 → nat_lt n 250 ≡ true
 room n q = grind (arith, nat_tests)
 
-with-new : (ns : List Text) (n : ℕ) → suc n ≤ 250 → with_variable Module (env ns (canonical n)) (numbered_text (suc n)) ≡ env ns (canonical (suc n))
+with-new : (ns : List Text) (n : ℕ) → suc n ≤ 250
+    → with_variable Module (env ns (canonical n)) (numbered_text (suc n)) ≡ env ns (canonical (suc n))
 unfolding with_variable
 with-new ns n q =
     ap (variable_by Module (env ns (canonical n)) (numbered_text (suc n))) (find-new n q)
@@ -115,18 +121,21 @@ with-new ns n q =
 next-facts : (n k : ℕ) → is_next n k ≡ true → (1 ≤ k) × (k ≤ n + 1) × (k ≤ 250)
 next-facts n k h =
     let front : nat_le 1 k && nat_le k (n + 1) ≡ true = and-first _ (nat_le k 250) h in
-    (leb-true 1 k (and-first _ (nat_le k (n + 1)) front), leb-true k (n + 1) (and-second (nat_le 1 k) _ front), leb-true k 250 (and-second (nat_le 1 k && nat_le k (n + 1)) _ h))
+    (leb-true 1 k (and-first _ (nat_le k (n + 1)) front), leb-true k (n + 1) (and-second (nat_le 1 k) _ front),
+        leb-true k 250 (and-second (nat_le 1 k && nat_le k (n + 1)) _ h))
 
 -- its number is the one that is written
 pub number-canonical : (n k : ℕ) → n ≤ 250 → is_next n k ≡ true → number (canonical n) (numbered_text k) ≡ k
 number-canonical n zero q h = absurd (omega (arith, (next-facts n zero h).0))
-number-canonical n (suc k) q h = let f = next-facts n (suc k) h in ⊎_elim new (λ l. number-known n k l q) (eq-or-lt_of_le (omega (arith, f.1)))
+number-canonical n (suc k) q h =
+    let f = next-facts n (suc k) h in ⊎_elim new (λ l. number-known n k l q) (eq-or-lt_of_le (omega (arith, f.1)))
   where
     new : k ≡ n → number (canonical n) (numbered_text (suc k)) ≡ suc k
     new e = subst (λ j. number (canonical j) (numbered_text (suc k)) ≡ suc k) e (number-new k (next-facts n (suc k) h).2)
 
 -- and the variables behind it are again the first ones
-pub with-canonical : (ns : List Text) (n k : ℕ) → n ≤ 250 → is_next n k ≡ true → with_variable Module (env ns (canonical n)) (numbered_text k) ≡ env ns (canonical (with_number n k))
+pub with-canonical : (ns : List Text) (n k : ℕ) → n ≤ 250 → is_next n k ≡ true
+    → with_variable Module (env ns (canonical n)) (numbered_text k) ≡ env ns (canonical (with_number n k))
 with-canonical ns n zero q h = absurd (omega (arith, (next-facts n zero h).0))
 with-canonical ns n (suc k) q h = let f = next-facts n (suc k) h in ⊎_elim new known (eq-or-lt_of_le (omega (arith, f.1)))
   where

@@ -7,19 +7,20 @@ use Rattle.fcp_text.specs.Bytes.{Text}
 use Rattle.fcp_grammar.specs.Grammar.{Marked, Tree, Trees, value, values, spell, spells}
 use Rattle.fcp_grammar.specs.Values.{over}
 use Rattle.fcp_grammar.specs.ItemGrammar.{ItemTree, item_value, spell_item}
-use Rattle.fcp_words.specs.Numbering.{Grows}
+use Rattle.fcp_terminals.specs.Numbering.{Grows}
 use Rattle.fcp_reader.specs.Texts.{clean}
 use Rattle.text_laws.specs.Spellings.{Spelling}
 use Rattle.text_laws.specs.TermSpellings.{Writing, term_spellings, terms_spellings}
 use Rattle.text_laws.specs.SourceSpellings.{spelled_item_call}
-use Rattle.reading_laws.specs.PieceWords.{Position, with_number, is_next, piece_words, behind_pieces, in_order}
+use Rattle.reading_laws.specs.PieceTerminals.{Position, with_number, is_next, piece_terminals, behind_pieces, in_order}
 use Rattle.reading_laws.specs.Variables.{count_behind, are_next, term_variables, terms_variables, call_variables}
 use Rattle.reading_laws.specs.Alike.{term_with, terms_with, call_with, item_with, by_text}
 
--- The pieces that `w` puts before others are, for a reader at p, the words that `spelled` puts before others, none of them
+-- The pieces that `w` puts before others are, for a reader at p, the terminals that `spelled` puts before others, none of them
 -- marked, and behind them it stands at q. `ks` are the variables in them.
 pub record Follows (w : Writing) (ks : List ℕ) (spelled : List Marked → List Marked) (p q : Position) : Type 0 where
-  pub words : (ps : List Spelling) (rest : List Marked) → clean (piece_words p (w ps)) rest ≡ spelled (clean (piece_words q ps) rest)
+  pub terminals : (ps : List Spelling) (rest : List Marked)
+      → clean (piece_terminals p (w ps)) rest ≡ spelled (clean (piece_terminals q ps) rest)
   pub behind : (ps : List Spelling) → behind_pieces p (w ps) ≡ behind_pieces q ps
   pub grows : Grows p.names q.names
   pub count : q.count ≡ count_behind p.count ks
@@ -59,11 +60,13 @@ grows-on a b c g h = (g.0 ++ h.0, h.1 ∙ ap (λ z. z ++ h.0) g.1 ∙ append_ass
 pub then : (v w : Writing) (ks ls : List ℕ) (s t : List Marked → List Marked) (p q r : Position) → Follows v ks s p q → Follows w ls t q r
     → Follows (λ ps. v (w ps)) (ks ++ ls) (λ rest. s (t rest)) p r
 then v w ks ls s t p q r f g = record {
-  words = λ ps rest. f.words (w ps) rest ∙ ap s (g.words ps rest);
+  terminals = λ ps rest. f.terminals (w ps) rest ∙ ap s (g.terminals ps rest);
   behind = λ ps. f.behind (w ps) ∙ g.behind ps;
   grows = grows-on p.names q.names r.names f.grows g.grows;
   count = g.count ∙ ap (λ n. count_behind n ls) f.count ∙ sym (count-append p.count ks ls);
-  order = λ ps e. f.order (w ps) (next-first p.count ks ls e) ∙ g.order ps (subst (λ n. are_next n ls ≡ true) (sym f.count) (next-second p.count ks ls e));
+  order =
+      λ ps e. f.order (w ps) (next-first p.count ks ls e)
+      ∙ g.order ps (subst (λ n. are_next n ls ≡ true) (sym f.count) (next-second p.count ks ls e));
 }
 
 -- ---- what is found for each term and item that a module has
@@ -73,19 +76,23 @@ pub record TermReads (names : List Text) (t : Term) (p : Position) : Type 0 wher
   pub tree : Tree
   pub after : Position
   pub follows : Follows (term_spellings names t) (term_variables t) (spell false tree) p after
-  pub same : (final : List Text) (g : Text → ℕ) → Grows after.names final → term_with (by_text g final) (value tree) ≡ term_with (by_text g names) t
+  pub same : (final : List Text) (g : Text → ℕ) → Grows after.names final
+      → term_with (by_text g final) (value tree) ≡ term_with (by_text g names) t
 
 -- trees of the arguments or parts t and ts
 pub record PartsRead (names : List Text) (t : Term) (ts : List Term) (p : Position) : Type 0 where
   pub front : Trees
   pub last : Tree
   pub after : Position
-  pub follows : Follows (terms_spellings names (t ∷ ts)) (terms_variables (t ∷ ts)) (λ rest. spells true front (spell (over (values front)) last rest)) p after
-  pub same : (final : List Text) (g : Text → ℕ) → Grows after.names final → terms_with (by_text g final) (values front ++ value last ∷ []) ≡ terms_with (by_text g names) (t ∷ ts)
+  pub follows : Follows (terms_spellings names (t ∷ ts)) (terms_variables (t ∷ ts))
+      (λ rest. spells true front (spell (over (values front)) last rest)) p after
+  pub same : (final : List Text) (g : Text → ℕ) → Grows after.names final
+      → terms_with (by_text g final) (values front ++ value last ∷ []) ≡ terms_with (by_text g names) (t ∷ ts)
 
 -- a tree of an item
 pub record ItemReads (names : List Text) (call : Call) (p : Position) : Type 0 where
   pub tree : ItemTree
   pub after : Position
   pub follows : Follows (spelled_item_call names call) (call_variables call) (spell_item false tree) p after
-  pub same : (final : List Text) (g : Text → ℕ) → Grows after.names final → item_with (by_text g final) (item_value tree) ≡ record { at = 0; call = call_with (by_text g names) call }
+  pub same : (final : List Text) (g : Text → ℕ) → Grows after.names final
+      → item_with (by_text g final) (item_value tree) ≡ record { at = 0; call = call_with (by_text g names) call }

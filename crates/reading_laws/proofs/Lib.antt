@@ -1,8 +1,8 @@
 pub mod Following
 pub mod CanonicalVariables
-pub mod WrittenWords
+pub mod WrittenTerminals
 pub mod SourcedTokens
-pub mod SourcedWords
+pub mod SourcedTerminals
 pub mod SourcedNames
 pub mod ReadParts
 pub mod ReadTerms

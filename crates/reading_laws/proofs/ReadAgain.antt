@@ -11,31 +11,31 @@ use Rattle.fcp_model.specs.declared.term.Term.{Term}
 use Rattle.fcp_model.specs.NameList.{number_of, reserved_names}
 use Rattle.fcp_text.specs.Bytes.{Text}
 use Rattle.fcp_text.specs.SourceClauses.{module_text}
-use Rattle.fcp_grammar.specs.declared.words.Word.{Word}
-use Rattle.fcp_words.specs.declared.variables.Form.TheVariants as form
-use Rattle.fcp_words.specs.Lexemes.{lexemes}
-use Rattle.fcp_words.specs.Numbering.{env, env_from}
+use Rattle.fcp_grammar.specs.declared.terminals.Terminal.{Terminal}
+use Rattle.fcp_terminals.specs.declared.variables.Form.TheVariants as form
+use Rattle.fcp_terminals.specs.Lexemes.{lexemes}
+use Rattle.fcp_terminals.specs.Numbering.{env, env_from}
 use Rattle.fcp_loader.specs.Faults.{faults_of, faults_at}
 use Rattle.fcp_reader.specs.ModuleGrammar.{module_value}
 use Rattle.fcp_reader.specs.Texts.{clean}
-use Rattle.fcp_reader.specs.Sources.{IsModule, words_of, names_by, names_behind_module}
+use Rattle.fcp_reader.specs.Sources.{IsModule, terminals_of, names_by, names_behind_module}
 use Rattle.text_laws.specs.Spellings.{Spelling, spellings_text, tokens_at}
 use Rattle.text_laws.specs.SourceSpellings.{module_spellings}
 use Rattle.text_laws.specs.Writable.{IsWritable, is_writable_module}
 use Rattle.text_laws.proofs.SpelledModules.{module-spells}
 use Rattle.text_laws.proofs.CanonicalTexts.{modules_fit, module_texts_are_cut}
-use Rattle.reading_laws.specs.PieceWords.{Position, position, piece_words, behind_pieces}
+use Rattle.reading_laws.specs.PieceTerminals.{Position, position, piece_terminals, behind_pieces}
 use Rattle.reading_laws.specs.Variables.{are_next, terms_variables}
 use Rattle.reading_laws.specs.Readable.{are_small_terms, is_readable, is_readable_clause, are_small_exports}
-use Rattle.reading_laws.specs.WordOrder.{words_fit}
+use Rattle.reading_laws.specs.TerminalOrder.{terminals_fit}
 use Rattle.reading_laws.specs.Alike.{AreAlike}
 use Rattle.reading_laws.specs.CanonicalReading.{IsShallow, CanonicalTextsAreRead}
 use Rattle.reading_laws.proofs.ReadFew.{read-few}
 use Rattle.reading_laws.proofs.ReadModules.{read-clauses, read-exports, read-writable}
 use Rattle.reading_laws.proofs.SourcedTokens.{both}
-use Rattle.reading_laws.proofs.SourcedWords.{words-in-order}
+use Rattle.reading_laws.proofs.SourcedTerminals.{terminals-in-order}
 use Rattle.reading_laws.proofs.SourcedNames.{strings-one-line, reserved-one-line}
-use Rattle.reading_laws.proofs.WrittenWords.{written-words, written-names}
+use Rattle.reading_laws.proofs.WrittenTerminals.{written-terminals, written-names}
 use Rattle.reading_laws.proofs.Following.{PartsRead}
 use Rattle.reading_laws.proofs.TreeTerms.{parts-read}
 use Rattle.reading_laws.proofs.TreeItems.{at-most, item-reads}
@@ -58,7 +58,8 @@ first-none : (fs gs : List Fault) → fs ++ gs ≡ [] → fs ≡ []
 first-none [] gs e = refl
 first-none (f ∷ fs) gs e = absurd (cc)
 
-attributes-right : (m : Module) → faults_of m ≡ [] → faults_at UnknownAttribute (option_to_list m.other) ++ faults_at RepeatedModule (option_to_list m.again) ≡ []
+attributes-right : (m : Module) → faults_of m ≡ []
+    → faults_at UnknownAttribute (option_to_list m.other) ++ faults_at RepeatedModule (option_to_list m.again) ≡ []
 attributes-right m e = first-none _ _ (first-none _ _ (first-none _ _ (first-none _ _ (first-none _ _ e))))
 
 no-other : (m : Module) → faults_of m ≡ [] → is_none m.other ≡ true
@@ -71,27 +72,33 @@ no-again m e =
 
 -- ---- what was read can be written and read
 
--- the words of a module's tokens fit
-words-right : (file : Text) (m : Module) (im : IsModule reserved_names file m) → faults_of m ≡ [] → words_fit 0 (words_of form.Module reserved_names file im.tokens) ≡ true
-words-right file m im e =
+-- the terminals of a module's tokens fit
+terminals-right : (file : Text) (m : Module) (im : IsModule reserved_names file m) → faults_of m ≡ []
+    → terminals_fit 0 (terminals_of form.Module reserved_names file im.tokens) ≡ true
+terminals-right file m im e =
     let other = subst (λ (x : Module). is_none x.other ≡ true) (sym im.is.value) (no-other m e) in
-    words-in-order reserved_names file im.tokens im.cut (read-few im.is.tree (words_of form.Module reserved_names file im.tokens) im.is.spelled other)
+    terminals-in-order reserved_names file im.tokens im.cut
+        (read-few im.is.tree (terminals_of form.Module reserved_names file im.tokens) im.is.spelled other)
 
 readable : (file : Text) (m : Module) → IsModule reserved_names file m → faults_of m ≡ [] → is_readable m ≡ true
 unfolding is_readable
 readable file m im e =
-    let ws : List Word = words_of form.Module reserved_names file im.tokens in
-    let fit = words-right file m im e in
-    let clauses = subst (λ (x : Module). list_all is_readable_clause x.clauses ≡ true) im.is.value (read-clauses im.is.tree ws im.is.spelled fit) in
+    let ws : List Terminal = terminals_of form.Module reserved_names file im.tokens in
+    let fit = terminals-right file m im e in
+    let clauses =
+        subst (λ (x : Module). list_all is_readable_clause x.clauses ≡ true) im.is.value (read-clauses im.is.tree ws im.is.spelled fit) in
     let exports = subst (λ (x : Module). are_small_exports x.exports ≡ true) im.is.value (read-exports im.is.tree ws im.is.spelled fit) in
     both (is_none m.again && is_none m.other && are_small_exports m.exports) (list_all is_readable_clause m.clauses)
-    (both (is_none m.again && is_none m.other) (are_small_exports m.exports) (both (is_none m.again) (is_none m.other) (no-again m e) (no-other m e)) exports)
+    (both (is_none m.again && is_none m.other) (are_small_exports m.exports)
+        (both (is_none m.again) (is_none m.other) (no-again m e) (no-other m e)) exports)
     clauses
 
-writable : (file : Text) (m : Module) → IsModule reserved_names file m → faults_of m ≡ [] → IsWritable (names_behind_module reserved_names file) m
+writable : (file : Text) (m : Module) → IsModule reserved_names file m → faults_of m ≡ []
+    → IsWritable (names_behind_module reserved_names file) m
 writable file m im e = (
   strings-one-line reserved_names file reserved-one-line,
-  subst (λ x. is_writable_module x ≡ true) im.is.value (read-writable im.is.tree (words_of form.Module reserved_names file im.tokens) im.is.spelled (words-right file m im e)),
+  subst (λ x. is_writable_module x ≡ true) im.is.value
+      (read-writable im.is.tree (terminals_of form.Module reserved_names file im.tokens) im.is.spelled (terminals-right file m im e)),
 )
 
 -- ---- what was written is read
@@ -103,18 +110,20 @@ pieces names m = module_spellings names m []
 text-is : (names : List Text) (m : Module) → spellings_text (pieces names m) ≡ module_text names m
 text-is names m = module-spells names m [] ∙ append-nil (module_text names m)
 
-parts : (names : List Text) (t : Term) (ts : List Term) (p : Position) → are_small_terms (t ∷ ts) ≡ true → nat_le (length (t ∷ ts)) 64 ≡ true → are_next p.count (terms_variables (t ∷ ts)) ≡ true → PartsRead names t ts p
+parts : (names : List Text) (t : Term) (ts : List Term) (p : Position) → are_small_terms (t ∷ ts) ≡ true
+    → nat_le (length (t ∷ ts)) 64 ≡ true → are_next p.count (terms_variables (t ∷ ts)) ≡ true → PartsRead names t ts p
 parts names t ts p small few next = parts-read names t ts p small (at-most (length (t ∷ ts)) 64 few) next
 
 reads : (names : List Text) (m : Module) → is_readable m ≡ true → ModuleReads names m (position 0 0 reserved_names)
 reads names m r = module-reads parts item-reads names m reserved_names r
 
--- the words of the canonical text
-words-are : (names : List Text) (m : Module) → is_readable m ≡ true → IsWritable names m
-    → words_of form.Module reserved_names (module_text names m) (tokens_at 0 (pieces names m)) ≡ piece_words (position 0 0 reserved_names) (pieces names m)
-words-are names m r w =
-    ap (λ z. words_of form.Module reserved_names z (tokens_at 0 (pieces names m))) (sym (text-is names m))
-    ∙ written-words reserved_names (pieces names m) (modules_fit names m w) (reads names m r).order
+-- the terminals of the canonical text
+terminals-are : (names : List Text) (m : Module) → is_readable m ≡ true → IsWritable names m
+    → terminals_of form.Module reserved_names (module_text names m) (tokens_at 0 (pieces names m))
+        ≡ piece_terminals (position 0 0 reserved_names) (pieces names m)
+terminals-are names m r w =
+    ap (λ z. terminals_of form.Module reserved_names z (tokens_at 0 (pieces names m))) (sym (text-is names m))
+    ∙ written-terminals reserved_names (pieces names m) (modules_fit names m w) (reads names m r).order
 
 -- the strings behind it
 names-are : (names : List Text) (m : Module) → is_readable m ≡ true → IsWritable names m
@@ -131,7 +140,7 @@ is-module names m r w s = record {
   cut = module_texts_are_cut names m w;
   is = record {
     tree = (reads names m r).tree;
-    spelled = (reads names m r).words ∙ ap (λ ws. clean ws []) (sym (words-are names m r w));
+    spelled = (reads names m r).terminals ∙ ap (λ ws. clean ws []) (sym (terminals-are names m r w));
     shallow = s (tokens_at 0 (pieces names m)) (module_texts_are_cut names m w);
     value = refl;
   };
@@ -144,8 +153,10 @@ is-alike names m r w =
     subst (λ others. AreAlike names m others (module_value (reads names m r).tree)) (sym (names-are names m r w))
     (sym ((reads names m r).same (number_of (names ++ (behind_pieces (position 0 0 reserved_names) (pieces names m)).names))))
 
-pub canonical_texts : CanonicalTextsAreRead
-canonical_texts file m im e s =
+from-file : (file : Text) (m : Module) → IsModule reserved_names file m → faults_of m ≡ []
+    → IsShallow (module_text (names_behind_module reserved_names file) m)
+    → IsAlike (names_behind_module reserved_names file) m (module_text (names_behind_module reserved_names file) m)
+from-file file m im e s =
     let r = readable file m im e in
     let w = writable file m im e in
     record {
@@ -153,3 +164,8 @@ canonical_texts file m im e s =
       is_module = is-module (names_behind_module reserved_names file) m r w s;
       alike = is-alike (names_behind_module reserved_names file) m r w;
     }
+
+-- the law; a crate above cites it for a module that it loaded
+pub canonical_texts : CanonicalTextsAreRead
+canonical_texts file m names im e same =
+    subst (λ ns. IsShallow (module_text ns m) → IsAlike ns m (module_text ns m)) (sym same) (from-file file m im e)

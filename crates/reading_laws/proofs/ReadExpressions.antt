@@ -1,4 +1,4 @@
--- The expression of a tree that spells unmarked words, and its operators.
+-- The expression of a tree that spells unmarked terminals, and its operators.
 use Rattle.std.proofs.Common.{◌≡◌, ℕ, ◌+◌, ◌≤◌, Bool, true, false, List, ◌∷◌, ◌++◌, refl, sym, subst, arith}
 use Rattle.std.specs.Prelude.{◌&&◌, nat_lt, if◌then◌else◌}
 use Rattle.std.proofs.lemmas.Bool.Decides.{nat_tests}
@@ -6,12 +6,12 @@ use Rattle.fcp_model.specs.declared.term.Term.{Term}
 use Rattle.fcp_model.specs.declared.term.ArithOp.{ArithOp}
 use Rattle.fcp_model.specs.declared.term.Expr.{Expr, Leaf, Op}
 use Rattle.fcp_model.proofs.Folds.{fold-Leaf, fold-Op}
-use Rattle.fcp_grammar.specs.declared.words.Word.TheVariants as W
+use Rattle.fcp_grammar.specs.declared.terminals.Terminal.TheVariants as terminal
 use Rattle.fcp_grammar.specs.Grammar.{Marked, first_of, value, plain}
-use Rattle.fcp_grammar.specs.ExpressionGrammar.{SumSign, add, sub, ProductSign, mul, div, rem, Factor, Product, Sum, leaf, group, one, times, only, plus, sum_word, sum_op, product_word, product_op, factor_value, product_value, sum_value, more, over_operators, factor_ops, product_ops, sum_ops, spell_factor, spell_product, spell_sum}
+use Rattle.fcp_grammar.specs.ExpressionGrammar.{SumSign, add, sub, ProductSign, mul, div, rem, Factor, Product, Sum, leaf, group, one, times, only, plus, sum_terminal, sum_op, product_terminal, product_op, factor_value, product_value, sum_value, more, over_operators, factor_ops, product_ops, sum_ops, spell_factor, spell_product, spell_sum}
 use Rattle.text_laws.specs.Writable.{is_writable_term, writable_expr_step, is_writable_expr}
 use Rattle.reading_laws.specs.Variables.{term_variables, expr_variables_step, expr_variables, count_behind}
-use Rattle.reading_laws.specs.WordOrder.{count_after}
+use Rattle.reading_laws.specs.TerminalOrder.{count_after}
 use Rattle.reading_laws.specs.Readable.{is_small_term, small_expr_step, is_small_expr, operators_step, operators_of}
 use Rattle.reading_laws.proofs.ReadParts.{Sound, Reads, two-read, reads-same, past}
 use Rattle.reading_laws.proofs.ReadTerms.{ReadsTerm}
@@ -63,7 +63,8 @@ pub record ReadsOperators (m : Bool) (k ops n : ℕ) (e : Expr) (rest : List Mar
   pub few : ops ≤ 256
   pub reads : ReadsExpr n e rest
 
-leaf-read : (m : Bool) (k n : ℕ) (t : Term) (at : ℕ) (rest : List Marked) → k ≤ 256 → (m ≡ false) × ReadsTerm n t rest → ReadsOperators m k k n (Leaf t at) rest
+leaf-read : (m : Bool) (k n : ℕ) (t : Term) (at : ℕ) (rest : List Marked) → k ≤ 256 → (m ≡ false) × ReadsTerm n t rest
+    → ReadsOperators m k k n (Leaf t at) rest
 leaf-read m k n t at rest few h = record {
   unmarked = h.0;
   counted = let e : operators_of (Leaf t at) ≡ 0 = operators-leaf t at in omega arith;
@@ -72,20 +73,22 @@ leaf-read m k n t at rest few h = record {
 }
 
 op-read : {m c : Bool} {k i j n : ℕ} {w : Marked} {x y : Expr} {rest : List Marked} (op : ArithOp) → ReadsOperators m k i n x (w ∷ rest)
-    → {more_rest : List Marked} → ReadsOperators c (i + 1) j (count_behind n (expr_variables x)) y more_rest → ReadsOperators m k j n (Op op x y) more_rest
+    → {more_rest : List Marked} → ReadsOperators c (i + 1) j (count_behind n (expr_variables x)) y more_rest
+        → ReadsOperators m k j n (Op op x y) more_rest
 op-read {x = x} {y = y} op a b = record {
   unmarked = a.unmarked;
-  counted = let e : operators_of (Op op x y) ≡ operators_of x + operators_of y + 1 = operators-op op x y in omega (arith, a.counted, b.counted);
+  counted =
+      let e : operators_of (Op op x y) ≡ operators_of x + operators_of y + 1 = operators-op op x y in omega (arith, a.counted, b.counted);
   few = b.few;
   reads = reads-same (small-op op x y) (writable-op op x y) (variables-op op x y) (two-read a.reads b.reads);
 }
 
-product-passes : (sign : ProductSign) (k : ℕ) → count_after k (product_word sign) ≡ k
+product-passes : (sign : ProductSign) (k : ℕ) → count_after k (product_terminal sign) ≡ k
 product-passes (mul at) k = refl
 product-passes (div at) k = refl
 product-passes (rem s at) k = refl
 
-sum-passes : (sign : SumSign) (k : ℕ) → count_after k (sum_word sign) ≡ k
+sum-passes : (sign : SumSign) (k : ℕ) → count_after k (sum_terminal sign) ≡ k
 sum-passes (add at) k = refl
 sum-passes (sub at) k = refl
 
@@ -100,30 +103,37 @@ one-more i h = by-test (nat_lt i 257) (grind (arith, nat_tests)) where
   by-test false e = absurd (cc)
 
 mutual
-  read-factor : (f : Factor) (m : Bool) (k n : ℕ) (rest : List Marked) → k ≤ 256 → Sound n (spell_factor m k f rest) → ReadsOperators m k (factor_ops k f) n (factor_value f) rest
+  read-factor : (f : Factor) (m : Bool) (k n : ℕ) (rest : List Marked) → k ≤ 256 → Sound n (spell_factor m k f rest)
+      → ReadsOperators m k (factor_ops k f) n (factor_value f) rest
   read-factor (leaf t) m k n rest few h = leaf-read m k n (value t) (first_of t) rest few (read-tree t m n rest h)
   read-factor (group o e) m k n rest few h =
-      let a : ReadsOperators false k (sum_ops k e) n (sum_value e) (plain W.RoundClose ∷ rest) = read-sum e false k n _ few h.2 in
+      let a : ReadsOperators false k (sum_ops k e) n (sum_value e) (plain terminal.RoundClose ∷ rest) = read-sum e false k n _ few h.2 in
       record { unmarked = h.0; counted = a.counted; few = a.few; reads = past (λ k. refl) a.reads }
 
-  read-product : (p : Product) (m : Bool) (k n : ℕ) (rest : List Marked) → k ≤ 256 → Sound n (spell_product m k p rest) → ReadsOperators m k (product_ops k p) n (product_value p) rest
+  read-product : (p : Product) (m : Bool) (k n : ℕ) (rest : List Marked) → k ≤ 256 → Sound n (spell_product m k p rest)
+      → ReadsOperators m k (product_ops k p) n (product_value p) rest
   read-product (one f) m k n rest few h = read-factor f m k n rest few h
   read-product (times p sign f) m k n rest few h =
       let i : ℕ = product_ops k p in
       let j : ℕ = count_behind n (expr_variables (product_value p)) in
-      let a : ReadsOperators m k i n (product_value p) ((product_word sign, over_operators i) ∷ spell_factor false (more i) f rest) = read-product p m k n _ few h in
+      let a : ReadsOperators m k i n (product_value p) ((product_terminal sign, over_operators i) ∷ spell_factor false (more i) f rest) =
+          read-product p m k n _ few h in
       let g : Sound j (spell_factor false (more i) f rest) = (past (product-passes sign) a.reads).behind in
       let e : more i ≡ i + 1 = one-more i a.reads.behind.0 in
-      let b : ReadsOperators false (more i) (factor_ops (more i) f) j (factor_value f) rest = read-factor f false (more i) j rest (subst (λ z. z ≤ 256) (sym e) (below-over i a.reads.behind.0)) g in
+      let b : ReadsOperators false (more i) (factor_ops (more i) f) j (factor_value f) rest =
+          read-factor f false (more i) j rest (subst (λ z. z ≤ 256) (sym e) (below-over i a.reads.behind.0)) g in
       op-read (product_op sign) a (subst (λ z. ReadsOperators false z (factor_ops (more i) f) j (factor_value f) rest) e b)
 
-  pub read-sum : (s : Sum) (m : Bool) (k n : ℕ) (rest : List Marked) → k ≤ 256 → Sound n (spell_sum m k s rest) → ReadsOperators m k (sum_ops k s) n (sum_value s) rest
+  pub read-sum : (s : Sum) (m : Bool) (k n : ℕ) (rest : List Marked) → k ≤ 256 → Sound n (spell_sum m k s rest)
+      → ReadsOperators m k (sum_ops k s) n (sum_value s) rest
   read-sum (only p) m k n rest few h = read-product p m k n rest few h
   read-sum (plus s sign p) m k n rest few h =
       let i : ℕ = sum_ops k s in
       let j : ℕ = count_behind n (expr_variables (sum_value s)) in
-      let a : ReadsOperators m k i n (sum_value s) ((sum_word sign, over_operators i) ∷ spell_product false (more i) p rest) = read-sum s m k n _ few h in
+      let a : ReadsOperators m k i n (sum_value s) ((sum_terminal sign, over_operators i) ∷ spell_product false (more i) p rest) =
+          read-sum s m k n _ few h in
       let g : Sound j (spell_product false (more i) p rest) = (past (sum-passes sign) a.reads).behind in
       let e : more i ≡ i + 1 = one-more i a.reads.behind.0 in
-      let b : ReadsOperators false (more i) (product_ops (more i) p) j (product_value p) rest = read-product p false (more i) j rest (subst (λ z. z ≤ 256) (sym e) (below-over i a.reads.behind.0)) g in
+      let b : ReadsOperators false (more i) (product_ops (more i) p) j (product_value p) rest =
+          read-product p false (more i) j rest (subst (λ z. z ≤ 256) (sym e) (below-over i a.reads.behind.0)) g in
       op-read (sum_op sign) a (subst (λ z. ReadsOperators false z (product_ops (more i) p) j (product_value p) rest) e b)

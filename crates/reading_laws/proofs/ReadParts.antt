@@ -1,15 +1,15 @@
--- What words say, of which none is marked: the parts that they spell are small and writable, and their variables stand in order.
+-- What terminals say, of which none is marked: the parts that they spell are small and writable, and their variables stand in order.
 use Rattle.std.proofs.Common.{◌≡◌, ℕ, Bool, true, false, List, [], ◌∷◌, ◌++◌, refl, ◌∙◌, sym, ap, subst, flat_map}
 use Rattle.std.specs.Prelude.{◌&&◌, ◌||◌}
 use Rattle.std.specs.List.{list_all}
 use Rattle.std.proofs.lemmas.List.{flat_map_more}
 use Rattle.fcp_text.proofs.Choices.{and-first, and-second}
-use Rattle.fcp_grammar.specs.declared.words.Word.{Word}
+use Rattle.fcp_grammar.specs.declared.terminals.Terminal.{Terminal}
 use Rattle.fcp_grammar.specs.Grammar.{Marked}
 use Rattle.fcp_reader.specs.Texts.{clean}
-use Rattle.reading_laws.specs.PieceWords.{with_number, is_next}
+use Rattle.reading_laws.specs.PieceTerminals.{with_number, is_next}
 use Rattle.reading_laws.specs.Variables.{count_behind, are_next}
-use Rattle.reading_laws.specs.WordOrder.{word_fits, count_after, words_fit}
+use Rattle.reading_laws.specs.TerminalOrder.{terminal_fits, count_after, terminals_fit}
 
 -- ---- tests that are joined
 
@@ -53,20 +53,21 @@ next-append n [] ys h k = k
 next-append n (x ∷ xs) ys h k =
     and-both (is_next n x) _ (and-first (is_next n x) _ h) (next-append (with_number n x) xs ys (and-second (is_next n x) _ h) k)
 
--- ---- words
+-- ---- terminals
 
--- no word is marked, and each fits behind n variables
+-- no terminal is marked, and each fits behind n variables
 abbrev pub Sound : ℕ → List Marked → Type 0
 Sound n [] = Unit {0}
-Sound n (w ∷ ws) = (w.1 ≡ false) × (word_fits n w.0 ≡ true) × Sound (count_after n w.0) ws
+Sound n (w ∷ ws) = (w.1 ≡ false) × (terminal_fits n w.0 ≡ true) × Sound (count_after n w.0) ws
 
-pub words-sound : (n : ℕ) (ws : List Word) → words_fit n ws ≡ true → Sound n (clean ws [])
-words-sound n [] h = tt
-words-sound n (w ∷ ws) h = (refl, and-first (word_fits n w) _ h, words-sound (count_after n w) ws (and-second (word_fits n w) _ h))
+pub terminals-sound : (n : ℕ) (ws : List Terminal) → terminals_fit n ws ≡ true → Sound n (clean ws [])
+terminals-sound n [] h = tt
+terminals-sound n (w ∷ ws) h =
+    (refl, and-first (terminal_fits n w) _ h, terminals-sound (count_after n w) ws (and-second (terminal_fits n w) _ h))
 
 -- ---- parts
 
--- a part behind n variables: whether it is small and writable, its variables, and the words behind it
+-- a part behind n variables: whether it is small and writable, its variables, and the terminals behind it
 pub record Reads (n : ℕ) (small writable : Bool) (variables : List ℕ) (rest : List Marked) : Type 0 where
   pub is_small : small ≡ true
   pub is_writable : writable ≡ true
@@ -97,7 +98,7 @@ pub reads-same : {n : ℕ} {s t w v : Bool} {xs ys : List ℕ} {rest : List Mark
     → t ≡ s → v ≡ w → ys ≡ xs → Reads n s w xs rest → Reads n t v ys rest
 reads-same e f g a = reads-as (λ h. e ∙ h) (λ h. f ∙ h) g a
 
--- a part and a word behind it that is no variable and no `.`
+-- a part and a terminal behind it that is no variable and no `.`
 pub past : {n : ℕ} {s v : Bool} {xs : List ℕ} {w : Marked} {rest : List Marked}
     → ((k : ℕ) → count_after k w.0 ≡ k) → Reads n s v xs (w ∷ rest) → Reads n s v xs rest
 past {n = n} {xs = xs} {rest = rest} e a = record {

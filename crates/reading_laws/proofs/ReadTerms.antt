@@ -1,4 +1,4 @@
--- The term of a tree that spells unmarked words.
+-- The term of a tree that spells unmarked terminals.
 use Rattle.std.proofs.Common.{◌≡◌, ℕ, Bool, true, List, [], ◌∷◌, ◌++◌, map, ◌∙◌, ap}
 use Rattle.std.specs.Prelude.{◌&&◌, ℤ}
 use Rattle.std.specs.List.{list_all}

@@ -13,10 +13,10 @@ use Rattle.fcp_text.specs.QuotedStrings.{unquoted}
 use Rattle.fcp_text.specs.TokenLaws.{IsSpelledWell}
 use Rattle.fcp_text.specs.Tokens.{Outcome, tokens_of}
 use Rattle.fcp_text.proofs.Choices.{by_test, and-first, and-second}
-use Rattle.fcp_words.specs.declared.variables.Form.TheVariants as form
-use Rattle.fcp_words.specs.Lexemes.{Lexeme, lexemes}
-use Rattle.fcp_words.specs.Numbering.{Env, env, variable_by, with_variable, env_by, env_from}
-use Rattle.fcp_words.specs.Numbering.{find as known}
+use Rattle.fcp_terminals.specs.declared.variables.Form.TheVariants as form
+use Rattle.fcp_terminals.specs.Lexemes.{Lexeme, lexemes}
+use Rattle.fcp_terminals.specs.Numbering.{Env, env, variable_by, with_variable, env_by, env_from}
+use Rattle.fcp_terminals.specs.Numbering.{find as known}
 use Rattle.fcp_reader.specs.Sources.{names_by, names_behind_module}
 use Rattle.text_laws.specs.Fitting.{IsOneLine, is_line}
 use Rattle.text_laws.specs.Writable.{AreWritableNames}
@@ -37,13 +37,15 @@ noted-one_line ns t h o =
 variable_by-names : (e : Env) (t : Text) (o : Option ℕ) → AreWritableNames e.names → AreWritableNames (variable_by form.Module e t o).names
 variable_by-names e t (Some i) h = h
 variable_by-names e t None h =
-    by_test (λ (b : Env). AreWritableNames b.names) (nat_lt (length e.variables) 250) (env e.names (e.variables ++ record { text = t; name = None } ∷ [])) e (λ g. h) (λ g. h)
+    by_test (λ (b : Env). AreWritableNames b.names) (nat_lt (length e.variables) 250)
+        (env e.names (e.variables ++ record { text = t; name = None } ∷ [])) e (λ g. h) (λ g. h)
 
 variable-names : (e : Env) (t : Text) → AreWritableNames e.names → AreWritableNames (with_variable form.Module e t).names
 unfolding with_variable
 variable-names e t h = variable_by-names e t (known e.variables t) h
 
-names-step : (e : Env) (t : Text) (k : Kind) → IsSound k t → IsSpelledWell k t → AreWritableNames e.names → AreWritableNames (env_by form.Module e t k).names
+names-step : (e : Env) (t : Text) (k : Kind) → IsSound k t → IsSpelledWell k t → AreWritableNames e.names
+    → AreWritableNames (env_by form.Module e t k).names
 names-step e t kind.Name s u h = noted-one_line e.names t h (s, IsUtf8-from_ascii t u)
 names-step e t kind.Quoted s u h = noted-one_line e.names (unquoted t) h (unquoted-is_line t s, u)
 names-step e t kind.Variable s u h = variable-names e t h
@@ -56,7 +58,8 @@ names-behind : (e : Env) (ls : List Lexeme) → AreSourced ls → AreWritableNam
 names-behind e [] s h = h
 names-behind e (l ∷ ls) s h = names-behind (env_by form.Module e l.text l.kind) ls s.2 (names-step e l.text l.kind s.0 s.1 h)
 
-names-by : (ns : List Text) (z : Text) (o : Outcome) → tokens_of z ≡ o → AreWritableNames ns → AreWritableNames (names_by form.Module ns z o)
+names-by : (ns : List Text) (z : Text) (o : Outcome) → tokens_of z ≡ o → AreWritableNames ns
+    → AreWritableNames (names_by form.Module ns z o)
 names-by ns z (Ok ts) e h = names-behind (env ns []) (lexemes z ts) (tokens-sourced z ts e) h
 names-by ns z (Err f) e h = h
 

@@ -21,7 +21,7 @@ use Rattle.fcp_text.specs.TokenLaws.{IsSpelledWell}
 use Rattle.fcp_text.specs.Tokens.{Outcome, front, lex_from, piece_then, sign_after, text_of, tokens_in, tokens_of}
 use Rattle.fcp_text.proofs.Choices.{by_test, and-first, and-second}
 use Rattle.fcp_text.proofs.Standing.{tokens_are_spelled_well}
-use Rattle.fcp_words.specs.Lexemes.{Lexeme, lexemes}
+use Rattle.fcp_terminals.specs.Lexemes.{Lexeme, lexemes}
 use Rattle.text_laws.specs.Fitting.{is_line}
 use Rattle.text_laws.specs.Writable.{is_int}
 
@@ -34,7 +34,8 @@ both false b g h = absurd (cc)
 word-no_feed : (b : ℕ) → is_in class.Word b ≡ true → not (b == 10) ≡ true
 word-no_feed b h = grind (arith, nat_tests)
 
-one-more : (c : Bool) (b n : ℕ) (z : Text) → (c ≡ true → not (b == 10) ≡ true) → is_line (take n z) ≡ true → is_line (take (cond c (suc n) 0) (b ∷ z)) ≡ true
+one-more : (c : Bool) (b n : ℕ) (z : Text) → (c ≡ true → not (b == 10) ≡ true) → is_line (take n z) ≡ true
+    → is_line (take (cond c (suc n) 0) (b ∷ z)) ≡ true
 one-more true b n z h r = both (not (b == 10)) (is_line (take n z)) (h refl) r
 one-more false b n z h r = refl
 
@@ -43,7 +44,8 @@ word-is_line [] = refl
 word-is_line (b ∷ z) =
     let n : ℕ = leading class.Word z in
     let e : 1 + n ≡ suc n = omega arith in
-    subst (λ m. is_line (take (cond (is_in class.Word b) m 0) (b ∷ z)) ≡ true) (sym e) (one-more (is_in class.Word b) b n z (word-no_feed b) (word-is_line z))
+    subst (λ m. is_line (take (cond (is_in class.Word b) m 0) (b ∷ z)) ≡ true) (sym e)
+        (one-more (is_in class.Word b) b n z (word-no_feed b) (word-is_line z))
 
 -- ---- quoted strings on one line
 
@@ -72,12 +74,15 @@ goes-on true true h g = refl
 goes-on true false h g = absurd (cc)
 goes-on false c h g = absurd (cc)
 
-closing-lined : (q at end : ℕ) (second : Bool) (z : Text) → not (q == 10) ≡ true → (second ≡ true → (slice_index z 0 == q) ≡ true) → closing q second at z ≡ Some end → Lined at z end
+closing-lined : (q at end : ℕ) (second : Bool) (z : Text) → not (q == 10) ≡ true → (second ≡ true → (slice_index z 0 == q) ≡ true)
+    → closing q second at z ≡ Some end → Lined at z end
 closing-lined q at end second [] n s e = absurd (cc)
-closing-lined q at end true (b ∷ z) n s e = lined-cons at b end z (same-no_feed b q n (s refl)) (closing-lined q (at + 1) end false z n (λ h. absurd (cc)) e)
+closing-lined q at end true (b ∷ z) n s e =
+    lined-cons at b end z (same-no_feed b q n (s refl)) (closing-lined q (at + 1) end false z n (λ h. absurd (cc)) e)
 closing-lined q at end false (b ∷ z) n s e =
     by_test (λ o. o ≡ Some end → Lined at (b ∷ z) end) (b == 10) None _ (λ h f. absurd (cc))
-    (λ h. by_test (λ o. o ≡ Some end → Lined at (b ∷ z) end) (b == q && not (slice_index z 0 == q)) (Some (at + 1)) (closing q (b == q) (at + 1) z)
+    (λ h. by_test (λ o. o ≡ Some end → Lined at (b ∷ z) end) (b == q && not (slice_index z 0 == q)) (Some (at + 1))
+        (closing q (b == q) (at + 1) z)
     (λ g f. lined-here at b end z (no_feed b h) f)
     (λ g f. lined-cons at b end z (no_feed b h) (closing-lined q (at + 1) end (b == q) z n (goes-on (b == q) (slice_index z 0 == q) g) f)))
     e
@@ -86,11 +91,13 @@ closing-lined q at end false (b ∷ z) n s e =
 without_quotes-is_line : (q : ℕ) (second : Bool) (z : Text) → is_line z ≡ true → is_line (without_quotes q second z) ≡ true
 without_quotes-is_line q second [] h = refl
 without_quotes-is_line q true (b ∷ z) h =
-    both (not (b == 10)) (is_line (without_quotes q false z)) (and-first (not (b == 10)) _ h) (without_quotes-is_line q false z (and-second (not (b == 10)) _ h))
+    both (not (b == 10)) (is_line (without_quotes q false z)) (and-first (not (b == 10)) _ h)
+        (without_quotes-is_line q false z (and-second (not (b == 10)) _ h))
 without_quotes-is_line q false (b ∷ z) h =
     by_test (λ w. is_line w ≡ true) (b == q) (without_quotes q true z) (b ∷ without_quotes q false z)
     (λ g. without_quotes-is_line q true z (and-second (not (b == 10)) _ h))
-    (λ g. both (not (b == 10)) (is_line (without_quotes q false z)) (and-first (not (b == 10)) _ h) (without_quotes-is_line q false z (and-second (not (b == 10)) _ h)))
+    (λ g. both (not (b == 10)) (is_line (without_quotes q false z)) (and-first (not (b == 10)) _ h)
+        (without_quotes-is_line q false z (and-second (not (b == 10)) _ h)))
 
 pub unquoted-is_line : (z : Text) → is_line z ≡ true → is_line (unquoted z) ≡ true
 unquoted-is_line [] h = refl
@@ -114,7 +121,8 @@ IsSoundPiece z (piece.Bad c) = Unit {0}
 quote-no_feed : (b : ℕ) → (b == 39 || b == 34) ≡ true → not (b == 10) ≡ true
 quote-no_feed b h = grind (arith, nat_tests)
 
-quoted_by-sound : (b : ℕ) (z : Text) (o : Option ℕ) → not (b == 10) ≡ true → ((end : ℕ) → o ≡ Some end → Lined 1 z end) → IsSoundPiece (b ∷ z) (quoted_piece o)
+quoted_by-sound : (b : ℕ) (z : Text) (o : Option ℕ) → not (b == 10) ≡ true → ((end : ℕ) → o ≡ Some end → Lined 1 z end)
+    → IsSoundPiece (b ∷ z) (quoted_piece o)
 quoted_by-sound b z None q h = tt
 quoted_by-sound b z (Some end) q h =
     let l : Lined 1 z end = h end refl in
@@ -125,7 +133,8 @@ quoted_by-sound b z (Some end) q h =
 quoted-sound : (b : ℕ) (z : Text) → (b == 39 || b == 34) ≡ true → IsSoundPiece (b ∷ z) (quoted (b ∷ z))
 unfolding quoted
 quoted-sound b z h =
-    quoted_by-sound b z (closing b false 1 z) (quote-no_feed b h) (λ end. closing-lined b 1 end false z (quote-no_feed b h) (λ g. absurd (cc)))
+    quoted_by-sound b z (closing b false 1 z) (quote-no_feed b h)
+        (λ end. closing-lined b 1 end false z (quote-no_feed b h) (λ g. absurd (cc)))
 
 signed-is_int : (m : Bool) (v : ℕ) → fits m v ≡ true → is_int (with_sign m v) ≡ true
 signed-is_int false v h = grind (arith, nat_tests)
@@ -134,7 +143,8 @@ signed-is_int true (suc v) h = grind (arith, nat_tests)
 
 number_by-sound : (z : Text) (k : ℕ) (m : Bool) (v : ℕ) → IsSoundPiece z (number_piece (option_map (λ n. (n, k)) (int_of m v)))
 number_by-sound z k m v =
-    by_test (λ o. IsSoundPiece z (number_piece (option_map (λ n. (n, k)) o))) (fits m v) (Some (with_sign m v)) None (λ h. signed-is_int m v h) (λ h. tt)
+    by_test (λ o. IsSoundPiece z (number_piece (option_map (λ n. (n, k)) o))) (fits m v) (Some (with_sign m v)) None
+        (λ h. signed-is_int m v h) (λ h. tt)
 
 number-sound : (z : Text) → IsSoundPiece z (number_piece (number z))
 unfolding number

@@ -6,21 +6,22 @@ use Rattle.fcp_model.specs.declared.term.ArithOp.TheVariants.{Add, Sub, Mul, Div
 use Rattle.fcp_model.specs.declared.term.Expr.{Expr, Leaf, Op}
 use Rattle.fcp_model.proofs.Folds.{fold-Leaf, fold-Op, expr_induction}
 use Rattle.fcp_text.specs.Bytes.{Text}
-use Rattle.fcp_grammar.specs.declared.words.Word.{Word}
+use Rattle.fcp_grammar.specs.declared.terminals.Terminal.{Terminal}
 use Rattle.fcp_grammar.specs.Grammar.{plain, value, first_of}
-use Rattle.fcp_grammar.specs.ExpressionGrammar.{Factor, leaf, group, one, times, Sum, only, plus, sum_word, product_word, factor_value, sum_value, more, over_operators, factor_ops, sum_ops, spell_factor, spell_sum}
-use Rattle.fcp_words.specs.Numbering.{Grows}
+use Rattle.fcp_grammar.specs.ExpressionGrammar.{Factor, leaf, group, one, times, Sum, only, plus, sum_terminal, product_terminal, factor_value, sum_value, more, over_operators, factor_ops, sum_ops, spell_factor, spell_sum}
+use Rattle.fcp_terminals.specs.Numbering.{Grows}
 use Rattle.text_laws.specs.Spellings.{mark}
 use Rattle.text_laws.specs.TermSpellings.{Writing, term_spellings}
 use Rattle.text_laws.specs.SourceSpellings.{ExprSpelling, spelled_operator, spelled_expr_step, expr_spelling, expr_spellings}
-use Rattle.reading_laws.specs.PieceWords.{Position, behind_piece}
+use Rattle.reading_laws.specs.PieceTerminals.{Position, behind_piece}
 use Rattle.reading_laws.specs.Variables.{are_next, term_variables, expr_variables_step, expr_variables}
 use Rattle.reading_laws.specs.Readable.{is_small_term, small_expr_step, is_small_expr, operators_step, operators_of}
 use Rattle.reading_laws.specs.Alike.{term_with, expr_with_step, expr_with, by_text}
 use Rattle.reading_laws.proofs.Following.{Follows, grows-on, next-first, TermReads}
-use Rattle.reading_laws.proofs.TreePieces.{and-true, chain, respelled, counted-last, mark-0, mark-1}
-use Rattle.reading_laws.proofs.TreeTerms.{reworded, next-behind, term-reads}
+use Rattle.reading_laws.proofs.TreePieces.{and-true, chain, respelled, counted-last, mark-round_open, mark-round_close}
+use Rattle.reading_laws.proofs.TreeTerms.{reterminaled, next-behind, term-reads}
 use Rattle.reading_laws.proofs.TreeOperators.{SumReads, ProductReads, add-reads, sub-reads, mul-reads, div-reads, mod-reads, one-more, not-over-operators}
+use Rattle.fcp_text.specs.Signs as signs
 
 -- ---- what is said of each kind of expression
 
@@ -91,7 +92,8 @@ module _ (names : List Text) where
     pub after : Position
     pub follows : Follows (expr_spellings names e) (expr_variables e) (spell_sum false n tree) p after
     pub ops : sum_ops n tree ≡ n + operators_of e
-    pub same : (final : List Text) (g : Text → ℕ) → Grows after.names final → expr_with (by_text g final) (sum_value tree) ≡ expr_with (by_text g names) e
+    pub same : (final : List Text) (g : Text → ℕ) → Grows after.names final
+        → expr_with (by_text g final) (sum_value tree) ≡ expr_with (by_text g names) e
 
   -- one as an operand
   record OperandReads (e : Expr) (n : ℕ) (p : Position) : Type 0 where
@@ -99,7 +101,8 @@ module _ (names : List Text) where
     after : Position
     follows : Follows (operand_spellings e) (expr_variables e) (spell_factor false n tree) p after
     ops : factor_ops n tree ≡ n + operators_of e
-    same : (final : List Text) (g : Text → ℕ) → Grows after.names final → expr_with (by_text g final) (factor_value tree) ≡ expr_with (by_text g names) e
+    same : (final : List Text) (g : Text → ℕ) → Grows after.names final
+        → expr_with (by_text g final) (factor_value tree) ≡ expr_with (by_text g names) e
 
   -- how an expression is written, alone and as an operand
   record Written (e : Expr) (w v : Writing) : Type 0 where
@@ -119,7 +122,7 @@ module _ (names : List Text) where
 
   -- pieces in parentheses
   abbrev parenthesized : Writing → Writing
-  parenthesized w ps = mark 0 ∷ w (mark 1 ∷ ps)
+  parenthesized w ps = mark signs.round_open ∷ w (mark signs.round_close ∷ ps)
 
   written-op : (op : ArithOp) (x y : Expr) → Written (Op op x y) (operation op x y) (parenthesized (operation op x y))
   written-op op x y = written-by (Op op x y) _ (fold-Op ExprSpelling (spelled_expr_step names) op x y)
@@ -132,10 +135,12 @@ module _ (names : List Text) where
 
   -- ---- leaves
 
-  leaf-term : (t : Term) (at : ℕ) → is_small_expr (Leaf t at) ≡ true → (p : Position) → are_next p.count (expr_variables (Leaf t at)) ≡ true → TermReads names t p
+  leaf-term : (t : Term) (at : ℕ) → is_small_expr (Leaf t at) ≡ true → (p : Position) → are_next p.count (expr_variables (Leaf t at)) ≡ true
+      → TermReads names t p
   leaf-term t at s p h = term-reads names t p (small-leaf t at s) (subst (λ ks. are_next p.count ks ≡ true) (variables-leaf t at) h)
 
-  same-leaf : (t u : Term) (at place : ℕ) (f g : ℕ → ℕ) → term_with f u ≡ term_with g t → expr_with f (Leaf u place) ≡ expr_with g (Leaf t at)
+  same-leaf : (t u : Term) (at place : ℕ) (f g : ℕ → ℕ) → term_with f u ≡ term_with g t
+      → expr_with f (Leaf u place) ≡ expr_with g (Leaf t at)
   same-leaf t u at place f g e = with-leaf f u place ∙ ap (λ x. Leaf x 0) e ∙ sym (with-leaf g t at)
 
   leaf-alone : (t : Term) (at : ℕ) → is_small_expr (Leaf t at) ≡ true → Alone (Leaf t at)
@@ -144,7 +149,9 @@ module _ (names : List Text) where
       record {
         tree = only (one (leaf r.tree));
         after = r.after;
-        follows = reworded (expr_spellings names (Leaf t at)) (expr_variables (Leaf t at)) (written-leaf t at).alone (variables-leaf t at) r.follows;
+        follows =
+            reterminaled (expr_spellings names (Leaf t at)) (expr_variables (Leaf t at)) (written-leaf t at).alone
+            (variables-leaf t at) r.follows;
         ops = behind-none n (operators_of (Leaf t at)) (operators-leaf t at);
         same = λ final g grows. same-leaf t (value r.tree) at (first_of r.tree) (by_text g final) (by_text g names) (r.same final g grows);
       }
@@ -155,7 +162,9 @@ module _ (names : List Text) where
       record {
         tree = leaf r.tree;
         after = r.after;
-        follows = reworded (operand_spellings (Leaf t at)) (expr_variables (Leaf t at)) (written-leaf t at).as_operand (variables-leaf t at) r.follows;
+        follows =
+            reterminaled (operand_spellings (Leaf t at)) (expr_variables (Leaf t at)) (written-leaf t at).as_operand
+            (variables-leaf t at) r.follows;
         ops = behind-none n (operators_of (Leaf t at)) (operators-leaf t at);
         same = λ final g grows. same-leaf t (value r.tree) at (first_of r.tree) (by_text g final) (by_text g names) (r.same final g grows);
       }
@@ -163,27 +172,36 @@ module _ (names : List Text) where
   -- ---- operations
 
   -- an operation is read as its left operand, its operator and its right operand
-  record OperationReads (op : ArithOp) (x y : Expr) (n : ℕ) (p : Position) (w : Word) : Type 0 where
+  record OperationReads (op : ArithOp) (x y : Expr) (n : ℕ) (p : Position) (w : Terminal) : Type 0 where
     left : Factor
     right : Factor
     after : Position
-    follows : Follows (operation op x y) (expr_variables x ++ expr_variables y) (λ rest. spell_factor false n left ((w, over_operators (factor_ops n left)) ∷ spell_factor false (more (factor_ops n left)) right rest)) p after
+    follows : Follows (operation op x y) (expr_variables x ++ expr_variables y)
+        (λ rest. spell_factor false n left
+        ((w, over_operators (factor_ops n left)) ∷ spell_factor false (more (factor_ops n left)) right rest)) p after
     ops : factor_ops (more (factor_ops n left)) right ≡ n + operators_of (Op op x y)
-    same : (final : List Text) (g : Text → ℕ) → Grows after.names final → expr_with (by_text g final) (Op op (factor_value left) (factor_value right)) ≡ expr_with (by_text g names) (Op op x y)
+    same : (final : List Text) (g : Text → ℕ) → Grows after.names final
+        → expr_with (by_text g final) (Op op (factor_value left) (factor_value right)) ≡ expr_with (by_text g names) (Op op x y)
 
-  same-op : (op : ArithOp) (x y u v : Expr) (f g : ℕ → ℕ) → expr_with f u ≡ expr_with g x → expr_with f v ≡ expr_with g y → expr_with f (Op op u v) ≡ expr_with g (Op op x y)
+  same-op : (op : ArithOp) (x y u v : Expr) (f g : ℕ → ℕ) → expr_with f u ≡ expr_with g x → expr_with f v ≡ expr_with g y
+      → expr_with f (Op op u v) ≡ expr_with g (Op op x y)
   same-op op x y u v f g d e = with-op f op u v ∙ ap₂ (Op op) d e ∙ sym (with-op g op x y)
 
-  left-reads : (op : ArithOp) (x y : Expr) → AsOperand x → (n : ℕ) (p : Position) → n + operators_of (Op op x y) ≤ 256 → are_next p.count (expr_variables (Op op x y)) ≡ true → OperandReads x n p
+  left-reads : (op : ArithOp) (x y : Expr) → AsOperand x → (n : ℕ) (p : Position) → n + operators_of (Op op x y) ≤ 256
+      → are_next p.count (expr_variables (Op op x y)) ≡ true → OperandReads x n p
   left-reads op x y first n p b h =
-      first n p (up-to (n + operators_of x) 256 (few-left n (operators_of x) (operators_of y) (operators_of (Op op x y)) (operators-op op x y) b))
+      first n p (up-to (n + operators_of x) 256
+          (few-left n (operators_of x) (operators_of y) (operators_of (Op op x y)) (operators-op op x y) b))
       (next-first p.count (expr_variables x) (expr_variables y) (subst (λ ks. are_next p.count ks ≡ true) (variables-op op x y) h))
 
-  both-read : (op : ArithOp) (x y : Expr) → AsOperand y → (n : ℕ) (p q : Position) (w : Word) → n + operators_of (Op op x y) ≤ 256 → are_next p.count (expr_variables (Op op x y)) ≡ true
+  both-read : (op : ArithOp) (x y : Expr) → AsOperand y → (n : ℕ) (p q : Position) (w : Terminal) → n + operators_of (Op op x y) ≤ 256
+      → are_next p.count (expr_variables (Op op x y)) ≡ true
       → (l : OperandReads x n p) → Follows (spelled_operator op) [] (λ rest. plain w ∷ rest) l.after q → OperationReads op x y n p w
   both-read op x y second n p q w b h l sign =
-      let i : are_next p.count (expr_variables x ++ expr_variables y) ≡ true = subst (λ ks. are_next p.count ks ≡ true) (variables-op op x y) h in
-      let under : n + operators_of x < 256 = few-left n (operators_of x) (operators_of y) (operators_of (Op op x y)) (operators-op op x y) b in
+      let i : are_next p.count (expr_variables x ++ expr_variables y) ≡ true =
+          subst (λ ks. are_next p.count ks ≡ true) (variables-op op x y) h in
+      let under : n + operators_of x < 256 =
+          few-left n (operators_of x) (operators_of y) (operators_of (Op op x y)) (operators-op op x y) b in
       let k : more (factor_ops n l.tree) ≡ n + operators_of x + 1 = next-number n (operators_of x) (factor_ops n l.tree) l.ops under in
       let c : over_operators (factor_ops n l.tree) ≡ false = none-over n (operators_of x) (factor_ops n l.tree) l.ops under in
       let r : OperandReads y (more (factor_ops n l.tree)) q =
@@ -194,39 +212,53 @@ module _ (names : List Text) where
         left = l.tree;
         right = r.tree;
         after = r.after;
-        follows = respelled (λ rest. spell_factor false n l.tree ((w, over_operators (factor_ops n l.tree)) ∷ spell_factor false (more (factor_ops n l.tree)) r.tree rest))
+        follows =
+            respelled (λ rest. spell_factor false n l.tree
+            ((w, over_operators (factor_ops n l.tree)) ∷ spell_factor false (more (factor_ops n l.tree)) r.tree rest))
             (chain l.follows (chain sign r.follows))
             (λ rest. ap (λ d. spell_factor false n l.tree ((w, d) ∷ spell_factor false (more (factor_ops n l.tree)) r.tree rest)) c);
-        ops = in-all n (operators_of x) (operators_of y) (operators_of (Op op x y)) (more (factor_ops n l.tree)) (factor_ops (more (factor_ops n l.tree)) r.tree) (operators-op op x y) k r.ops;
+        ops =
+            in-all n (operators_of x) (operators_of y) (operators_of (Op op x y)) (more (factor_ops n l.tree))
+            (factor_ops (more (factor_ops n l.tree)) r.tree) (operators-op op x y) k r.ops;
         same = λ final g grows.
             let behind : Grows q.names final = grows-on q.names r.after.names final r.follows.grows grows in
-            same-op op x y (factor_value l.tree) (factor_value r.tree) (by_text g final) (by_text g names) (l.same final g (grows-on l.after.names q.names final sign.grows behind)) (r.same final g grows);
+            same-op op x y (factor_value l.tree) (factor_value r.tree) (by_text g final) (by_text g names)
+                (l.same final g (grows-on l.after.names q.names final sign.grows behind)) (r.same final g grows);
       }
 
   sum-alone : (op : ArithOp) (x y : Expr) → ((q : Position) → SumReads op q) → AsOperand x → AsOperand y → Alone (Op op x y)
   sum-alone op x y signs first second n p b h =
       let l : OperandReads x n p = left-reads op x y first n p b h in
       let s : SumReads op l.after = signs l.after in
-      let o : OperationReads op x y n p (sum_word s.tree) = both-read op x y second n p s.after (sum_word s.tree) b h l s.follows in
+      let o : OperationReads op x y n p (sum_terminal s.tree) = both-read op x y second n p s.after (sum_terminal s.tree) b h l s.follows in
       record {
         tree = plus (only (one o.left)) s.tree (one o.right);
         after = o.after;
-        follows = reworded (expr_spellings names (Op op x y)) (expr_variables (Op op x y)) (written-op op x y).alone (variables-op op x y) o.follows;
+        follows =
+            reterminaled (expr_spellings names (Op op x y)) (expr_variables (Op op x y)) (written-op op x y).alone
+            (variables-op op x y) o.follows;
         ops = o.ops;
-        same = λ final g grows. ap (λ a. expr_with (by_text g final) (Op a (factor_value o.left) (factor_value o.right))) s.same ∙ o.same final g grows;
+        same =
+            λ final g grows. ap (λ a. expr_with (by_text g final) (Op a (factor_value o.left) (factor_value o.right))) s.same
+            ∙ o.same final g grows;
       }
 
   product-alone : (op : ArithOp) (x y : Expr) → ((q : Position) → ProductReads op q) → AsOperand x → AsOperand y → Alone (Op op x y)
   product-alone op x y signs first second n p b h =
       let l : OperandReads x n p = left-reads op x y first n p b h in
       let s : ProductReads op l.after = signs l.after in
-      let o : OperationReads op x y n p (product_word s.tree) = both-read op x y second n p s.after (product_word s.tree) b h l s.follows in
+      let o : OperationReads op x y n p (product_terminal s.tree) =
+          both-read op x y second n p s.after (product_terminal s.tree) b h l s.follows in
       record {
         tree = only (times (one o.left) s.tree o.right);
         after = o.after;
-        follows = reworded (expr_spellings names (Op op x y)) (expr_variables (Op op x y)) (written-op op x y).alone (variables-op op x y) o.follows;
+        follows =
+            reterminaled (expr_spellings names (Op op x y)) (expr_variables (Op op x y)) (written-op op x y).alone
+            (variables-op op x y) o.follows;
         ops = o.ops;
-        same = λ final g grows. ap (λ a. expr_with (by_text g final) (Op a (factor_value o.left) (factor_value o.right))) s.same ∙ o.same final g grows;
+        same =
+            λ final g grows. ap (λ a. expr_with (by_text g final) (Op a (factor_value o.left) (factor_value o.right))) s.same
+            ∙ o.same final g grows;
       }
 
   op-alone : (op : ArithOp) (x y : Expr) → AsOperand x → AsOperand y → Alone (Op op x y)
@@ -239,11 +271,14 @@ module _ (names : List Text) where
   -- as an operand it stands in parentheses
   op-operand : (op : ArithOp) (x y : Expr) → Alone (Op op x y) → AsOperand (Op op x y)
   op-operand op x y reads n p b h =
-      let r : ExprReads (Op op x y) n (behind_piece p (mark 0)) = reads n (behind_piece p (mark 0)) b h in
+      let r : ExprReads (Op op x y) n (behind_piece p (mark signs.round_open)) = reads n (behind_piece p (mark signs.round_open)) b h in
       record {
         tree = group p.at r.tree;
-        after = behind_piece r.after (mark 1);
-        follows = reworded (operand_spellings (Op op x y)) (expr_variables (Op op x y)) ((written-op op x y).as_operand ∙ ap parenthesized (sym (written-op op x y).alone)) refl (counted-last (chain (mark-0 p) (chain r.follows (mark-1 r.after))));
+        after = behind_piece r.after (mark signs.round_close);
+        follows =
+            reterminaled (operand_spellings (Op op x y)) (expr_variables (Op op x y))
+            ((written-op op x y).as_operand ∙ ap parenthesized (sym (written-op op x y).alone)) refl
+            (counted-last (chain (mark-round_open p) (chain r.follows (mark-round_close r.after))));
         ops = r.ops;
         same = r.same;
       }
@@ -266,5 +301,6 @@ module _ (names : List Text) where
   at-expr = expr_induction At at-leaf at-op
 
 -- a small expression has a tree behind n operators, where all are at most 256
-pub expr-reads : (names : List Text) (e : Expr) (n : ℕ) (p : Position) → is_small_expr e ≡ true → n + operators_of e ≤ 256 → are_next p.count (expr_variables e) ≡ true → ExprReads names e n p
+pub expr-reads : (names : List Text) (e : Expr) (n : ℕ) (p : Position) → is_small_expr e ≡ true → n + operators_of e ≤ 256
+    → are_next p.count (expr_variables e) ≡ true → ExprReads names e n p
 expr-reads names e n p s b h = (at-expr names e s).0 n p b h

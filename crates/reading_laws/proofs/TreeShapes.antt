@@ -11,6 +11,7 @@ use Rattle.text_laws.specs.TermSpellings.{Writing, TermSpelling, comma, parted_b
 use Rattle.reading_laws.specs.Variables.{variables_step, term_variables, terms_variables}
 use Rattle.reading_laws.specs.Readable.{Size, parts_fit, size_step, size_of, is_small_term, are_small_terms}
 use Rattle.reading_laws.proofs.TreePieces.{and-true}
+use Rattle.fcp_text.specs.Signs as signs
 
 -- ---- variables
 
@@ -60,7 +61,9 @@ each-small (t ∷ ts) = ap (λ b. is_small_term t && b) (each-small ts)
 pub small-tuple : (ts : List Term) → is_small_term (Tuple ts) ≡ true → (parts_fit (map size_of ts) ≡ true) × (are_small_terms ts ≡ true)
 unfolding is_small_term
 small-tuple ts e =
-    let both = and-true (parts_fit (map size_of ts)) (list_all (λ (t : Size). t.small) (map size_of ts)) (ap (λ (s : Size). s.small) (sym (fold-Tuple Size size_step ts)) ∙ e) in
+    let both =
+        and-true (parts_fit (map size_of ts)) (list_all (λ (t : Size). t.small) (map size_of ts))
+        (ap (λ (s : Size). s.small) (sym (fold-Tuple Size size_step ts)) ∙ e) in
     (both.0, sym (each-small ts) ∙ both.1)
 
 pub small-first : (t : Term) (ts : List Term) → are_small_terms (t ∷ ts) ≡ true → is_small_term t ≡ true
@@ -76,7 +79,8 @@ module _ (names : List Text) where
   abbrev pub StringOrNone : Term → Type 0
   StringOrNone t = ((s : Sym) × (t ≡ Str s)) ⊎ (((term_spelling names t).is_string ≡ false) × ((size_of t).is_string ≡ false))
 
-  none-by : (t : Term) (a : TermSpelling) (b : Size) → term_spelling names t ≡ a → size_of t ≡ b → a.is_string ≡ false → b.is_string ≡ false → StringOrNone t
+  none-by : (t : Term) (a : TermSpelling) (b : Size) → term_spelling names t ≡ a → size_of t ≡ b → a.is_string ≡ false → b.is_string ≡ false
+      → StringOrNone t
   none-by t a b e f g h = inr (ap (λ (x : TermSpelling). x.is_string) e ∙ g, ap (λ (x : Size). x.is_string) f ∙ h)
 
   pub string-or-none : (t : Term) → StringOrNone t
@@ -105,7 +109,7 @@ module _ (names : List Text) where
 
   -- the pieces of one that is no list
   abbrev pub behind_bar : Writing → Writing
-  behind_bar w ps = mark 6 ∷ w (mark 3 ∷ ps)
+  behind_bar w ps = mark signs.bar ∷ w (mark signs.square_close ∷ ps)
 
   pub written-int : (n : ℤ) → Written (Int n) (λ ps. number n ∷ ps) (behind_bar (λ ps. number n ∷ ps))
   written-int n = written-by (Int n) _ (fold-Int TermSpelling (spelling_step names) n)
@@ -113,16 +117,19 @@ module _ (names : List Text) where
   pub written-str : (s : Sym) → Written (Str s) (λ ps. string (name_at names s.0) ∷ ps) (behind_bar (λ ps. string (name_at names s.0) ∷ ps))
   written-str s = written-by (Str s) _ (fold-Str TermSpelling (spelling_step names) s)
 
-  pub written-nil : Written Nil (λ ps. mark 2 ∷ mark 3 ∷ ps) (λ ps. mark 3 ∷ ps)
+  pub written-nil : Written Nil (λ ps. mark signs.square_open ∷ mark signs.square_close ∷ ps) (λ ps. mark signs.square_close ∷ ps)
   written-nil = written-by Nil _ (fold-Nil TermSpelling (spelling_step names))
 
   pub written-var : (k : ℕ) → Written (Var k) (λ ps. variable k ∷ ps) (behind_bar (λ ps. variable k ∷ ps))
   written-var k = written-by (Var k) _ (fold-Var TermSpelling (spelling_step names) k)
 
-  pub written-ro : (k : ℕ) → Written (Ro k) (λ ps. variable k ∷ mark 9 ∷ ps) (behind_bar (λ ps. variable k ∷ mark 9 ∷ ps))
+  pub written-ro : (k : ℕ) → Written (Ro k) (λ ps. variable k ∷ mark signs.question ∷ ps)
+      (behind_bar (λ ps. variable k ∷ mark signs.question ∷ ps))
   written-ro k = written-by (Ro k) _ (fold-Ro TermSpelling (spelling_step names) k)
 
-  pub written-cons : (h t : Term) → Written (Cons h t) (λ ps. mark 2 ∷ term_spellings names h (rest_spellings t ps)) (λ ps. mark 7 ∷ term_spellings names h (rest_spellings t ps))
+  pub written-cons : (h t : Term)
+      → Written (Cons h t) (λ ps. mark signs.square_open ∷ term_spellings names h (rest_spellings t ps))
+      (λ ps. mark signs.comma ∷ term_spellings names h (rest_spellings t ps))
   unfolding term_spellings
   written-cons h t = written-by (Cons h t) _ (fold-Cons TermSpelling (spelling_step names) h t)
 
@@ -133,16 +140,17 @@ module _ (names : List Text) where
 
   -- parts in braces
   abbrev pub braced : List Term → Writing
-  braced ts ps = mark 4 ∷ terms_spellings names ts (mark 5 ∷ ps)
+  braced ts ps = mark signs.curly_open ∷ terms_spellings names ts (mark signs.curly_close ∷ ps)
 
   -- a string and parts in parentheses
   abbrev pub called : Sym → List Term → Writing
-  called s ts ps = string (name_at names s.0) ∷ mark 0 ∷ terms_spellings names ts (mark 1 ∷ ps)
+  called s ts ps = string (name_at names s.0) ∷ mark signs.round_open ∷ terms_spellings names ts (mark signs.round_close ∷ ps)
 
   in-braces : (ts : List Term) → spelled_in_braces (map (term_spelling names) ts) ≡ braced ts
-  in-braces ts = ap (λ l ps. mark 4 ∷ parted_by comma l (mark 5 ∷ ps)) (map-alone ts)
+  in-braces ts = ap (λ l ps. mark signs.curly_open ∷ parted_by comma l (mark signs.curly_close ∷ ps)) (map-alone ts)
 
-  written-tuple : (ts : List Term) → Written (Tuple ts) (spelled_tuple (map (term_spelling names) ts)) (behind_bar (spelled_tuple (map (term_spelling names) ts)))
+  written-tuple : (ts : List Term)
+      → Written (Tuple ts) (spelled_tuple (map (term_spelling names) ts)) (behind_bar (spelled_tuple (map (term_spelling names) ts)))
   written-tuple ts = written-by (Tuple ts) _ (fold-Tuple TermSpelling (spelling_step names) ts)
 
   tuple-by : (ts : List Term) (w : Writing) → spelled_tuple (map (term_spelling names) ts) ≡ w → Written (Tuple ts) w (behind_bar w)
@@ -151,16 +159,23 @@ module _ (names : List Text) where
   pub written-one : (t : Term) → Written (Tuple (t ∷ [])) (braced (t ∷ [])) (behind_bar (braced (t ∷ [])))
   written-one t = tuple-by (t ∷ []) (braced (t ∷ [])) (in-braces (t ∷ []))
 
-  pub written-braces : (t u : Term) (us : List Term) → (term_spelling names t).is_string ≡ false → Written (Tuple (t ∷ u ∷ us)) (braced (t ∷ u ∷ us)) (behind_bar (braced (t ∷ u ∷ us)))
+  pub written-braces : (t u : Term) (us : List Term) → (term_spelling names t).is_string ≡ false
+      → Written (Tuple (t ∷ u ∷ us)) (braced (t ∷ u ∷ us)) (behind_bar (braced (t ∷ u ∷ us)))
   written-braces t u us e =
       let a : TermSpelling = term_spelling names t in
       let xs : List TermSpelling = map (term_spelling names) (u ∷ us) in
-      tuple-by (t ∷ u ∷ us) (braced (t ∷ u ∷ us)) (ap (λ (b : Bool). if b then spelled_call a xs else spelled_in_braces (a ∷ xs)) e ∙ in-braces (t ∷ u ∷ us))
+      tuple-by (t ∷ u ∷ us) (braced (t ∷ u ∷ us))
+          (ap (λ (b : Bool). if b then spelled_call a xs else spelled_in_braces (a ∷ xs)) e ∙ in-braces (t ∷ u ∷ us))
 
-  string-call : (s : Sym) (x : TermSpelling) (xs : List TermSpelling) → spelled_tuple (term_spelling names (Str s) ∷ x ∷ xs) ≡ (λ ps. string (name_at names s.0) ∷ mark 0 ∷ spelled_parts (x ∷ xs) (mark 1 ∷ ps))
+  string-call : (s : Sym) (x : TermSpelling) (xs : List TermSpelling)
+      → spelled_tuple (term_spelling names (Str s) ∷ x ∷ xs)
+      ≡ (λ ps. string (name_at names s.0) ∷ mark signs.round_open ∷ spelled_parts (x ∷ xs) (mark signs.round_close ∷ ps))
   string-call s x xs = ap (λ (a : TermSpelling). spelled_tuple (a ∷ x ∷ xs)) (fold-Str TermSpelling (spelling_step names) s)
 
-  pub written-call : (s : Sym) (u : Term) (us : List Term) → Written (Tuple (Str s ∷ u ∷ us)) (called s (u ∷ us)) (behind_bar (called s (u ∷ us)))
+  pub written-call : (s : Sym) (u : Term) (us : List Term)
+      → Written (Tuple (Str s ∷ u ∷ us)) (called s (u ∷ us)) (behind_bar (called s (u ∷ us)))
   written-call s u us =
       tuple-by (Str s ∷ u ∷ us) (called s (u ∷ us))
-      (string-call s (term_spelling names u) (map (term_spelling names) us) ∙ ap (λ l ps. string (name_at names s.0) ∷ mark 0 ∷ parted_by comma l (mark 1 ∷ ps)) (map-alone (u ∷ us)))
+      (string-call s (term_spelling names u) (map (term_spelling names) us)
+          ∙ ap (λ l ps. string (name_at names s.0) ∷ mark signs.round_open ∷ parted_by comma l (mark signs.round_close ∷ ps))
+          (map-alone (u ∷ us)))

@@ -7,28 +7,31 @@ use Rattle.fcp_model.specs.declared.term.Term.{Term, Int, Str, Nil, Cons, Tuple,
 use Rattle.fcp_model.specs.Spelling.{name_at}
 use Rattle.fcp_model.proofs.Folds.{Each, term_induction}
 use Rattle.fcp_text.specs.Bytes.{Text}
-use Rattle.fcp_grammar.specs.declared.words.Word.TheVariants as W
-use Rattle.fcp_grammar.specs.Grammar.{Marked, Tree, int, word, call, variable, read_only, nil, list, list_rest, braces, Trees, none, and, value, values, plain, spell, spells}
+use Rattle.fcp_grammar.specs.declared.terminals.Terminal.TheVariants as terminal
+use Rattle.fcp_grammar.specs.Grammar.{Marked, Tree, int, call, name_alone, with_arguments, variable, read_only, nil, list, list_rest, braces, Trees, none, and, value, values, plain, spell, spells}
 use Rattle.fcp_grammar.specs.Values.{listed, over}
-use Rattle.fcp_words.specs.Numbering.{Grows}
+use Rattle.fcp_terminals.specs.Numbering.{Grows}
 use Rattle.text_laws.specs.Spellings.{string, number, mark}
 use Rattle.text_laws.specs.Spellings as piece
 use Rattle.text_laws.specs.TermSpellings.{Writing, comma, each_after, term_spellings}
-use Rattle.reading_laws.specs.PieceWords.{Position, behind_piece, string_form}
+use Rattle.reading_laws.specs.PieceTerminals.{Position, behind_piece, string_form}
 use Rattle.reading_laws.specs.Variables.{are_next, term_variables, terms_variables}
 use Rattle.reading_laws.specs.Readable.{size_of, parts_fit, is_small_term, are_small_terms}
 use Rattle.reading_laws.specs.Alike.{term_with, terms_with, by_text}
 use Rattle.reading_laws.proofs.Following.{Follows, grows-on, next-first, next-second, TermReads, PartsRead}
-use Rattle.reading_laws.proofs.TreePieces.{chain, respelled, counted, counted-last, none-follows, read_string, string-follows, string-name, number-follows, variable-follows, mark-0, mark-1, mark-2, mark-3, mark-4, mark-5, mark-6, mark-7, mark-9}
+use Rattle.reading_laws.proofs.TreePieces.{chain, respelled, counted, counted-last, none-follows, read_string, string-follows, string-name, number-follows, variable-follows, mark-round_open, mark-round_close, mark-square_open, mark-square_close, mark-curly_open, mark-curly_close, mark-bar, mark-comma, mark-question}
 use Rattle.reading_laws.proofs.TreeLists.{with-int, with-str, with-nil, with-cons, with-tuple, with-var, with-ro, with-append, with-listed, listed-append, not-over}
 use Rattle.reading_laws.proofs.TreeShapes.{variables-int, variables-str, variables-nil, variables-cons, variables-tuple, variables-var, variables-ro, small-cons, small-tuple, small-first, small-others, StringOrNone, string-or-none, rest_spellings, Written, behind_bar, written-int, written-str, written-nil, written-var, written-ro, written-cons, braced, called, written-one, written-braces, written-call}
+use Rattle.fcp_text.specs.Signs as signs
 
 -- the same pieces and the same variables, written otherwise
-pub reworded : {w : Writing} {ks : List ℕ} {s : List Marked → List Marked} {p q : Position} (v : Writing) (ls : List ℕ) → v ≡ w → ls ≡ ks → Follows w ks s p q → Follows v ls s p q
-reworded {w} {ks} {s} {p} {q} v ls e f h = subst (λ x. Follows x ls s p q) (sym e) (counted ls h (sym f))
+pub reterminaled : {w : Writing} {ks : List ℕ} {s : List Marked → List Marked} {p q : Position} (v : Writing) (ls : List ℕ) → v ≡ w
+    → ls ≡ ks → Follows w ks s p q → Follows v ls s p q
+reterminaled {w} {ks} {s} {p} {q} v ls e f h = subst (λ x. Follows x ls s p q) (sym e) (counted ls h (sym f))
 
 -- the variables behind others
-pub next-behind : {w : Writing} {ks : List ℕ} {s : List Marked → List Marked} {p q : Position} (ls : List ℕ) → Follows w ks s p q → are_next p.count (ks ++ ls) ≡ true → are_next q.count ls ≡ true
+pub next-behind : {w : Writing} {ks : List ℕ} {s : List Marked → List Marked} {p q : Position} (ls : List ℕ) → Follows w ks s p q
+    → are_next p.count (ks ++ ls) ≡ true → are_next q.count ls ≡ true
 next-behind {w} {ks} {s} {p} {q} ls f e = subst (λ n. are_next n ls ≡ true) (sym f.count) (next-second p.count ks ls e)
 
 module _ (names : List Text) where
@@ -38,9 +41,11 @@ module _ (names : List Text) where
     spelled : List Marked → List Marked
     after : Position
     follows : Follows (rest_spellings names t) (term_variables t) spelled p after
-    finished : (at : ℕ) (front : Trees) (last : Tree) (m : Bool) (rest : List Marked) → spell m (finish at front last) rest ≡ (W.SquareOpen at, m) ∷ spells false front (spell false last (spelled rest))
+    finished : (at : ℕ) (front : Trees) (last : Tree) (m : Bool) (rest : List Marked)
+        → spell m (finish at front last) rest ≡ (terminal.SquareOpen at, m) ∷ spells false front (spell false last (spelled rest))
     same : (final : List Text) (g : Text → ℕ) → Grows after.names final → (at : ℕ) (front : Trees) (last : Tree)
-        → term_with (by_text g final) (value (finish at front last)) ≡ listed (terms_with (by_text g final) (values front ++ value last ∷ [])) (term_with (by_text g names) t)
+        → term_with (by_text g final) (value (finish at front last))
+            ≡ listed (terms_with (by_text g final) (values front ++ value last ∷ [])) (term_with (by_text g names) t)
 
   -- Parts behind others, each behind a comma: those before them are a front and a last one.
   record MoreParts (ts : List Term) (front : Trees) (last : Tree) (p : Position) : Type 0 where
@@ -49,9 +54,12 @@ module _ (names : List Text) where
     spelled : List Marked → List Marked
     after : Position
     follows : Follows (each_after comma (map (term_spellings names) ts)) (terms_variables ts) spelled p after
-    finished : (rest : List Marked) → spells true all_but_one (spell (over (values all_but_one)) last_one rest) ≡ spells true front (spell (over (values front)) last (spelled rest))
+    finished : (rest : List Marked)
+        → spells true all_but_one (spell (over (values all_but_one)) last_one rest)
+        ≡ spells true front (spell (over (values front)) last (spelled rest))
     same : (final : List Text) (g : Text → ℕ) → Grows after.names final
-        → terms_with (by_text g final) (values all_but_one ++ value last_one ∷ []) ≡ terms_with (by_text g final) (values front ++ value last ∷ []) ++ terms_with (by_text g names) ts
+        → terms_with (by_text g final) (values all_but_one ++ value last_one ∷ [])
+            ≡ terms_with (by_text g final) (values front ++ value last ∷ []) ++ terms_with (by_text g names) ts
 
   -- ---- terms that are no list
 
@@ -64,33 +72,42 @@ module _ (names : List Text) where
 
   no_list-rest : (t : Term) (w : Writing) → Written names t w (behind_bar names w) → Alone t → AsRest t
   no_list-rest t w e reads p n =
-      let r : TermReads names t (behind_piece p (mark 6)) = reads (behind_piece p (mark 6)) n in
+      let r : TermReads names t (behind_piece p (mark signs.bar)) = reads (behind_piece p (mark signs.bar)) n in
       record {
         finish = λ at front last. list_rest at front last r.tree;
-        spelled = λ rest. plain W.Bar ∷ spell false r.tree (plain W.SquareClose ∷ rest);
-        after = behind_piece r.after (mark 3);
-        follows = reworded (rest_spellings names t) (term_variables t) (e.as_rest ∙ ap (behind_bar names) (sym e.alone)) refl (counted-last (chain (mark-6 p) (chain r.follows (mark-3 r.after))));
+        spelled = λ rest. plain terminal.Bar ∷ spell false r.tree (plain terminal.SquareClose ∷ rest);
+        after = behind_piece r.after (mark signs.square_close);
+        follows =
+            reterminaled (rest_spellings names t) (term_variables t) (e.as_rest ∙ ap (behind_bar names) (sym e.alone)) refl
+            (counted-last (chain (mark-bar p) (chain r.follows (mark-square_close r.after))));
         finished = λ at front last m rest. refl;
-        same = λ final g grows at front last. with-listed (by_text g final) (values front ++ value last ∷ []) (value r.tree) ∙ ap (listed (terms_with (by_text g final) (values front ++ value last ∷ []))) (r.same final g grows);
+        same =
+            λ final g grows at front last. with-listed (by_text g final) (values front ++ value last ∷ []) (value r.tree)
+            ∙ ap (listed (terms_with (by_text g final) (values front ++ value last ∷ []))) (r.same final g grows);
       }
 
   int-alone : (n : ℤ) → Alone (Int n)
   int-alone n p h = record {
     tree = int n p.at;
     after = behind_piece p (number n);
-    follows = reworded (term_spellings names (Int n)) (term_variables (Int n)) (written-int names n).alone (variables-int n) (number-follows p n);
+    follows =
+        reterminaled (term_spellings names (Int n)) (term_variables (Int n)) (written-int names n).alone (variables-int n)
+        (number-follows p n);
     same = λ final g grows. with-int (by_text g final) n ∙ sym (with-int (by_text g names) n);
   }
 
   str-alone : (s : Sym) → Alone (Str s)
   str-alone s p h =
       let t : Text = name_at names s.0 in
-      let f : Follows (λ ps. string t ∷ ps) [] (λ rest. plain (W.Str (read_string p t) (string_form t) p.at) ∷ rest) p (behind_piece p (string t)) = string-follows p t in
+      let f : Follows (λ ps. string t ∷ ps) [] (λ rest. plain (terminal.Str (read_string p t) (string_form t) p.at) ∷ rest) p
+          (behind_piece p (string t)) = string-follows p t in
       record {
-        tree = word (read_string p t) (string_form t) p.at;
+        tree = call (name_alone (read_string p t) (string_form t) p.at);
         after = behind_piece p (string t);
-        follows = reworded (term_spellings names (Str s)) (term_variables (Str s)) (written-str names s).alone (variables-str s) f;
-        same = λ final g grows. with-str (by_text g final) (read_string p t) ∙ ap (λ x. Str (record { 0 = g x })) (string-name p t final grows) ∙ sym (with-str (by_text g names) s);
+        follows = reterminaled (term_spellings names (Str s)) (term_variables (Str s)) (written-str names s).alone (variables-str s) f;
+        same =
+            λ final g grows. with-str (by_text g final) (read_string p t) ∙ ap (λ x. Str (record { 0 = g x })) (string-name p t final grows)
+            ∙ sym (with-str (by_text g names) s);
       }
 
   var-alone : (k : ℕ) → Alone (Var k)
@@ -99,7 +116,9 @@ module _ (names : List Text) where
       record {
         tree = variable k p.at;
         after = behind_piece p (piece.variable k);
-        follows = reworded (term_spellings names (Var k)) (term_variables (Var k)) (written-var names k).alone (variables-var k) (variable-follows p k n);
+        follows =
+            reterminaled (term_spellings names (Var k)) (term_variables (Var k)) (written-var names k).alone (variables-var k)
+            (variable-follows p k n);
         same = λ final g grows. with-var (by_text g final) k ∙ sym (with-var (by_text g names) k);
       }
 
@@ -108,8 +127,10 @@ module _ (names : List Text) where
       let n : are_next p.count (k ∷ []) ≡ true = subst (λ ks. are_next p.count ks ≡ true) (variables-ro k) h in
       record {
         tree = read_only k p.at;
-        after = behind_piece (behind_piece p (piece.variable k)) (mark 9);
-        follows = reworded (term_spellings names (Ro k)) (term_variables (Ro k)) (written-ro names k).alone (variables-ro k) (chain (variable-follows p k n) (mark-9 (behind_piece p (piece.variable k))));
+        after = behind_piece (behind_piece p (piece.variable k)) (mark signs.question);
+        follows =
+            reterminaled (term_spellings names (Ro k)) (term_variables (Ro k)) (written-ro names k).alone (variables-ro k)
+            (chain (variable-follows p k n) (mark-question (behind_piece p (piece.variable k))));
         same = λ final g grows. with-ro (by_text g final) k ∙ sym (with-ro (by_text g names) k);
       }
 
@@ -118,49 +139,61 @@ module _ (names : List Text) where
   nil-alone : Alone Nil
   nil-alone p h = record {
     tree = nil p.at;
-    after = behind_piece (behind_piece p (mark 2)) (mark 3);
-    follows = reworded (term_spellings names Nil) (term_variables Nil) (written-nil names).alone variables-nil (chain (mark-2 p) (mark-3 (behind_piece p (mark 2))));
+    after = behind_piece (behind_piece p (mark signs.square_open)) (mark signs.square_close);
+    follows =
+        reterminaled (term_spellings names Nil) (term_variables Nil) (written-nil names).alone variables-nil
+        (chain (mark-square_open p) (mark-square_close (behind_piece p (mark signs.square_open))));
     same = λ final g grows. with-nil (by_text g final) ∙ sym (with-nil (by_text g names));
   }
 
   nil-rest : AsRest Nil
   nil-rest p h = record {
     finish = list;
-    spelled = λ rest. plain W.SquareClose ∷ rest;
-    after = behind_piece p (mark 3);
-    follows = reworded (rest_spellings names Nil) (term_variables Nil) (written-nil names).as_rest variables-nil (mark-3 p);
+    spelled = λ rest. plain terminal.SquareClose ∷ rest;
+    after = behind_piece p (mark signs.square_close);
+    follows = reterminaled (rest_spellings names Nil) (term_variables Nil) (written-nil names).as_rest variables-nil (mark-square_close p);
     finished = λ at front last m rest. refl;
     same = λ final g grows at front last.
         with-listed (by_text g final) (values front ++ value last ∷ []) Nil
-        ∙ ap (listed (terms_with (by_text g final) (values front ++ value last ∷ []))) (with-nil (by_text g final) ∙ sym (with-nil (by_text g names)));
+        ∙ ap (listed (terms_with (by_text g final) (values front ++ value last ∷ [])))
+            (with-nil (by_text g final) ∙ sym (with-nil (by_text g names)));
   }
 
   cons-alone : (h t : Term) → Alone h → AsRest t → Alone (Cons h t)
   cons-alone h t first others p n =
-      let m : are_next p.count (term_variables h ++ term_variables t) ≡ true = subst (λ ks. are_next p.count ks ≡ true) (variables-cons h t) n in
-      let r : TermReads names h (behind_piece p (mark 2)) = first (behind_piece p (mark 2)) (next-first p.count (term_variables h) (term_variables t) m) in
+      let m : are_next p.count (term_variables h ++ term_variables t) ≡ true =
+          subst (λ ks. are_next p.count ks ≡ true) (variables-cons h t) n in
+      let r : TermReads names h (behind_piece p (mark signs.square_open)) =
+          first (behind_piece p (mark signs.square_open)) (next-first p.count (term_variables h) (term_variables t) m) in
       let o : RestReads t r.after = others r.after (next-behind (term_variables t) r.follows m) in
       record {
         tree = o.finish p.at none r.tree;
         after = o.after;
-        follows = reworded (term_spellings names (Cons h t)) (term_variables (Cons h t)) (written-cons names h t).alone (variables-cons h t)
-            (respelled (spell false (o.finish p.at none r.tree)) (chain (mark-2 p) (chain r.follows o.follows)) (o.finished p.at none r.tree false));
+        follows =
+            reterminaled (term_spellings names (Cons h t)) (term_variables (Cons h t)) (written-cons names h t).alone (variables-cons h t)
+            (respelled (spell false (o.finish p.at none r.tree)) (chain (mark-square_open p) (chain r.follows o.follows))
+                (o.finished p.at none r.tree false));
         same = λ final g grows.
             o.same final g grows p.at none r.tree
-            ∙ ap (λ x. Cons x (term_with (by_text g names) t)) (r.same final g (grows-on r.after.names o.after.names final o.follows.grows grows))
+            ∙ ap (λ x. Cons x (term_with (by_text g names) t))
+                (r.same final g (grows-on r.after.names o.after.names final o.follows.grows grows))
             ∙ sym (with-cons (by_text g names) h t);
       }
 
   cons-rest : (h t : Term) → Alone h → AsRest t → AsRest (Cons h t)
   cons-rest h t first others p n =
-      let m : are_next p.count (term_variables h ++ term_variables t) ≡ true = subst (λ ks. are_next p.count ks ≡ true) (variables-cons h t) n in
-      let r : TermReads names h (behind_piece p (mark 7)) = first (behind_piece p (mark 7)) (next-first p.count (term_variables h) (term_variables t) m) in
+      let m : are_next p.count (term_variables h ++ term_variables t) ≡ true =
+          subst (λ ks. are_next p.count ks ≡ true) (variables-cons h t) n in
+      let r : TermReads names h (behind_piece p (mark signs.comma)) =
+          first (behind_piece p (mark signs.comma)) (next-first p.count (term_variables h) (term_variables t) m) in
       let o : RestReads t r.after = others r.after (next-behind (term_variables t) r.follows m) in
       record {
         finish = λ at front last. o.finish at (and front last) r.tree;
-        spelled = λ rest. plain W.Comma ∷ spell false r.tree (o.spelled rest);
+        spelled = λ rest. plain terminal.Comma ∷ spell false r.tree (o.spelled rest);
         after = o.after;
-        follows = reworded (rest_spellings names (Cons h t)) (term_variables (Cons h t)) (written-cons names h t).as_rest (variables-cons h t) (chain (mark-7 p) (chain r.follows o.follows));
+        follows =
+            reterminaled (rest_spellings names (Cons h t)) (term_variables (Cons h t)) (written-cons names h t).as_rest (variables-cons h t)
+            (chain (mark-comma p) (chain r.follows o.follows));
         finished = λ at front last b rest. o.finished at (and front last) r.tree b rest;
         same = λ final g grows at front last.
             let f : ℕ → ℕ = by_text g final in
@@ -169,7 +202,9 @@ module _ (names : List Text) where
             ∙ ap (λ l. listed l (term_with (by_text g names) t)) (with-append f xs (value r.tree ∷ []))
             ∙ listed-append (terms_with f xs) (term_with f (value r.tree)) (term_with (by_text g names) t)
             ∙ ap (listed (terms_with f xs))
-            (ap (λ x. Cons x (term_with (by_text g names) t)) (r.same final g (grows-on r.after.names o.after.names final o.follows.grows grows)) ∙ sym (with-cons (by_text g names) h t));
+            (ap (λ x. Cons x (term_with (by_text g names) t))
+                (r.same final g (grows-on r.after.names o.after.names final o.follows.grows grows))
+                ∙ sym (with-cons (by_text g names) h t));
       }
 
   -- ---- parts
@@ -181,16 +216,20 @@ module _ (names : List Text) where
   fewer : (xs : List Term) (y t : Term) (ts : List Term) → length xs + length (t ∷ ts) ≤ 64 → length (xs ++ y ∷ []) + length ts ≤ 64
   fewer xs y t ts h = let e : length (xs ++ y ∷ []) ≡ length xs + length (y ∷ []) = length-append xs (y ∷ []) in omega arith
 
-  same-more : (f : ℕ → ℕ) (us xs : List Term) (y z : Term) (all : List Term) → all ≡ terms_with f (xs ++ y ∷ []) ++ us → term_with f y ≡ z → all ≡ terms_with f xs ++ (z ∷ us)
+  same-more : (f : ℕ → ℕ) (us xs : List Term) (y z : Term) (all : List Term) → all ≡ terms_with f (xs ++ y ∷ []) ++ us → term_with f y ≡ z
+      → all ≡ terms_with f xs ++ (z ∷ us)
   same-more f us xs y z all e h =
-      e ∙ ap (λ l. l ++ us) (with-append f xs (y ∷ [])) ∙ append_assoc (terms_with f xs) (term_with f y ∷ []) us ∙ ap (λ x. terms_with f xs ++ (x ∷ us)) h
+      e ∙ ap (λ l. l ++ us) (with-append f xs (y ∷ [])) ∙ append_assoc (terms_with f xs) (term_with f y ∷ []) us
+          ∙ ap (λ x. terms_with f xs ++ (x ∷ us)) h
 
   -- a part behind fewer than 64 is not marked
-  unmarked : (front : Trees) (last t : Tree) (rest all : List Marked) → over (values front ++ value last ∷ []) ≡ false → all ≡ spells true (and front last) (spell (over (values (and front last))) t rest)
-      → all ≡ spells true front (spell (over (values front)) last (plain W.Comma ∷ spell false t rest))
+  unmarked : (front : Trees) (last t : Tree) (rest all : List Marked) → over (values front ++ value last ∷ []) ≡ false
+      → all ≡ spells true (and front last) (spell (over (values (and front last))) t rest)
+      → all ≡ spells true front (spell (over (values front)) last (plain terminal.Comma ∷ spell false t rest))
   unmarked front last t rest all c e = e ∙ ap (λ d. spells true (and front last) (spell d t rest)) c
 
-  more-parts : (ts : List Term) → Each At ts → (front : Trees) (last : Tree) (p : Position) → are_small_terms ts ≡ true → are_next p.count (terms_variables ts) ≡ true
+  more-parts : (ts : List Term) → Each At ts → (front : Trees) (last : Tree) (p : Position) → are_small_terms ts ≡ true
+      → are_next p.count (terms_variables ts) ≡ true
       → length (values front ++ value last ∷ []) + length ts ≤ 64 → MoreParts ts front last p
   more-parts [] e front last p s n b = record {
     all_but_one = front;
@@ -203,33 +242,44 @@ module _ (names : List Text) where
   }
   more-parts (t ∷ ts) e front last p s n b =
       let xs : List Term = values front ++ value last ∷ [] in
-      let r : TermReads names t (behind_piece p (mark 7)) = (e.0 (small-first t ts s)).0 (behind_piece p (mark 7)) (next-first p.count (term_variables t) (terms_variables ts) n) in
-      let o : MoreParts ts (and front last) r.tree r.after = more-parts ts e.1 (and front last) r.tree r.after (small-others t ts s) (next-behind (terms_variables ts) r.follows n) (fewer xs (value r.tree) t ts b) in
+      let r : TermReads names t (behind_piece p (mark signs.comma)) =
+          (e.0 (small-first t ts s)).0 (behind_piece p (mark signs.comma)) (next-first p.count (term_variables t) (terms_variables ts) n) in
+      let o : MoreParts ts (and front last) r.tree r.after =
+          more-parts ts e.1 (and front last) r.tree r.after (small-others t ts s) (next-behind (terms_variables ts) r.follows n)
+          (fewer xs (value r.tree) t ts b) in
       let c : over xs ≡ false = not-over xs (omega (arith, b)) in
       record {
         all_but_one = o.all_but_one;
         last_one = o.last_one;
-        spelled = λ rest. plain W.Comma ∷ spell false r.tree (o.spelled rest);
+        spelled = λ rest. plain terminal.Comma ∷ spell false r.tree (o.spelled rest);
         after = o.after;
-        follows = chain (mark-7 p) (chain r.follows o.follows);
-        finished = λ rest. unmarked front last r.tree (o.spelled rest) (spells true o.all_but_one (spell (over (values o.all_but_one)) o.last_one rest)) c (o.finished rest);
+        follows = chain (mark-comma p) (chain r.follows o.follows);
+        finished =
+            λ rest. unmarked front last r.tree (o.spelled rest)
+            (spells true o.all_but_one (spell (over (values o.all_but_one)) o.last_one rest)) c (o.finished rest);
         same = λ final g grows.
-            same-more (by_text g final) (terms_with (by_text g names) ts) xs (value r.tree) (term_with (by_text g names) t) (terms_with (by_text g final) (values o.all_but_one ++ value o.last_one ∷ [])) (o.same final g grows)
+            same-more (by_text g final) (terms_with (by_text g names) ts) xs (value r.tree) (term_with (by_text g names) t)
+                (terms_with (by_text g final) (values o.all_but_one ++ value o.last_one ∷ [])) (o.same final g grows)
             (r.same final g (grows-on r.after.names o.after.names final o.follows.grows grows));
       }
 
-  parts : (t : Term) (ts : List Term) → Each At (t ∷ ts) → (p : Position) → are_small_terms (t ∷ ts) ≡ true → are_next p.count (terms_variables (t ∷ ts)) ≡ true → length (t ∷ ts) ≤ 64 → PartsRead names t ts p
+  parts : (t : Term) (ts : List Term) → Each At (t ∷ ts) → (p : Position) → are_small_terms (t ∷ ts) ≡ true
+      → are_next p.count (terms_variables (t ∷ ts)) ≡ true → length (t ∷ ts) ≤ 64 → PartsRead names t ts p
   parts t ts e p s n b =
       let r : TermReads names t p = (e.0 (small-first t ts s)).0 p (next-first p.count (term_variables t) (terms_variables ts) n) in
-      let o : MoreParts ts none r.tree r.after = more-parts ts e.1 none r.tree r.after (small-others t ts s) (next-behind (terms_variables ts) r.follows n) (omega (arith, b)) in
+      let o : MoreParts ts none r.tree r.after =
+          more-parts ts e.1 none r.tree r.after (small-others t ts s) (next-behind (terms_variables ts) r.follows n) (omega (arith, b)) in
       record {
         front = o.all_but_one;
         last = o.last_one;
         after = o.after;
-        follows = respelled (λ rest. spells true o.all_but_one (spell (over (values o.all_but_one)) o.last_one rest)) (chain r.follows o.follows) o.finished;
+        follows =
+            respelled (λ rest. spells true o.all_but_one (spell (over (values o.all_but_one)) o.last_one rest))
+            (chain r.follows o.follows) o.finished;
         same = λ final g grows.
             o.same final g grows
-            ∙ ap (λ x. x ∷ terms_with (by_text g names) ts) (r.same final g (grows-on r.after.names o.after.names final o.follows.grows grows));
+            ∙ ap (λ x. x ∷ terms_with (by_text g names) ts)
+                (r.same final g (grows-on r.after.names o.after.names final o.follows.grows grows));
       }
 
   -- ---- tuples
@@ -238,34 +288,43 @@ module _ (names : List Text) where
       → Written names (Tuple (t ∷ ts)) (braced names (t ∷ ts)) (behind_bar names (braced names (t ∷ ts))) → Alone (Tuple (t ∷ ts))
   braces-alone t ts e s b w p h =
       let n : are_next p.count (terms_variables (t ∷ ts)) ≡ true = subst (λ ks. are_next p.count ks ≡ true) (variables-tuple (t ∷ ts)) h in
-      let o : PartsRead names t ts (behind_piece p (mark 4)) = parts t ts e (behind_piece p (mark 4)) s n b in
+      let o : PartsRead names t ts (behind_piece p (mark signs.curly_open)) = parts t ts e (behind_piece p (mark signs.curly_open)) s n b in
       record {
         tree = braces p.at o.front o.last;
-        after = behind_piece o.after (mark 5);
-        follows = reworded (term_spellings names (Tuple (t ∷ ts))) (term_variables (Tuple (t ∷ ts))) w.alone (variables-tuple (t ∷ ts)) (counted-last (chain (mark-4 p) (chain o.follows (mark-5 o.after))));
-        same = λ final g grows. with-tuple (by_text g final) (values o.front ++ value o.last ∷ []) ∙ ap Tuple (o.same final g grows) ∙ sym (with-tuple (by_text g names) (t ∷ ts));
+        after = behind_piece o.after (mark signs.curly_close);
+        follows =
+            reterminaled (term_spellings names (Tuple (t ∷ ts))) (term_variables (Tuple (t ∷ ts))) w.alone (variables-tuple (t ∷ ts))
+            (counted-last (chain (mark-curly_open p) (chain o.follows (mark-curly_close o.after))));
+        same =
+            λ final g grows. with-tuple (by_text g final) (values o.front ++ value o.last ∷ []) ∙ ap Tuple (o.same final g grows)
+            ∙ sym (with-tuple (by_text g names) (t ∷ ts));
       }
 
   -- the variables of a string with parts behind it are those of the parts
   variables-call : (s : Sym) (ts : List Term) → term_variables (Tuple (Str s ∷ ts)) ≡ terms_variables ts
   variables-call s ts = variables-tuple (Str s ∷ ts) ∙ ap (λ ks. ks ++ terms_variables ts) (variables-str s)
 
-  call-alone : (s : Sym) (u : Term) (us : List Term) → Each At (u ∷ us) → are_small_terms (u ∷ us) ≡ true → length (u ∷ us) ≤ 64 → Alone (Tuple (Str s ∷ u ∷ us))
+  call-alone : (s : Sym) (u : Term) (us : List Term) → Each At (u ∷ us) → are_small_terms (u ∷ us) ≡ true → length (u ∷ us) ≤ 64
+      → Alone (Tuple (Str s ∷ u ∷ us))
   call-alone s u us e small b p h =
       let t : Text = name_at names s.0 in
       let q : Position = behind_piece p (string t) in
       let n : are_next p.count (terms_variables (u ∷ us)) ≡ true = subst (λ ks. are_next p.count ks ≡ true) (variables-call s (u ∷ us)) h in
-      let o : PartsRead names u us (behind_piece q (mark 0)) = parts u us e (behind_piece q (mark 0)) small n b in
+      let o : PartsRead names u us (behind_piece q (mark signs.round_open)) =
+          parts u us e (behind_piece q (mark signs.round_open)) small n b in
       record {
-        tree = call (read_string p t) (string_form t) p.at q.at o.front o.last;
-        after = behind_piece o.after (mark 1);
-        follows = reworded (term_spellings names (Tuple (Str s ∷ u ∷ us))) (term_variables (Tuple (Str s ∷ u ∷ us))) (written-call names s u us).alone (variables-call s (u ∷ us))
-            (counted-last (chain (string-follows p t) (chain (mark-0 q) (chain o.follows (mark-1 o.after)))));
+        tree = call (with_arguments (read_string p t) (string_form t) p.at q.at o.front o.last);
+        after = behind_piece o.after (mark signs.round_close);
+        follows =
+            reterminaled (term_spellings names (Tuple (Str s ∷ u ∷ us))) (term_variables (Tuple (Str s ∷ u ∷ us)))
+            (written-call names s u us).alone (variables-call s (u ∷ us))
+            (counted-last (chain (string-follows p t) (chain (mark-round_open q) (chain o.follows (mark-round_close o.after)))));
         same = λ final g grows.
             let f : ℕ → ℕ = by_text g final in
             with-tuple f (Str (read_string p t) ∷ (values o.front ++ value o.last ∷ []))
             ∙ ap₂ (λ x l. Tuple (x ∷ l))
-            (with-str f (read_string p t) ∙ ap (λ x. Str (record { 0 = g x })) (string-name p t final (grows-on q.names o.after.names final o.follows.grows grows)) ∙ sym (with-str (by_text g names) s))
+            (with-str f (read_string p t) ∙ ap (λ x. Str (record { 0 = g x }))
+                (string-name p t final (grows-on q.names o.after.names final o.follows.grows grows)) ∙ sym (with-str (by_text g names) s))
             (o.same final g grows)
             ∙ sym (with-tuple (by_text g names) (Str s ∷ u ∷ us));
       }
@@ -280,14 +339,17 @@ module _ (names : List Text) where
   at-most-63 n false e h = grind (arith, nat_tests)
 
   -- a tuple of one kind or the other
-  many-alone : (t u : Term) (us : List Term) → Each At (t ∷ u ∷ us) → parts_fit (map size_of (t ∷ u ∷ us)) ≡ true → are_small_terms (t ∷ u ∷ us) ≡ true → StringOrNone names t
+  many-alone : (t u : Term) (us : List Term) → Each At (t ∷ u ∷ us) → parts_fit (map size_of (t ∷ u ∷ us)) ≡ true
+      → are_small_terms (t ∷ u ∷ us) ≡ true → StringOrNone names t
       → (w : Writing) × Written names (Tuple (t ∷ u ∷ us)) w (behind_bar names w) × Alone (Tuple (t ∷ u ∷ us))
   many-alone t u us e fit small (inl k) =
-      let b : length (u ∷ us) ≤ 64 = subst (λ n. n ≤ 64) (length-map (u ∷ us) size_of) (at-most (length (map size_of (u ∷ us))) (size_of t).is_string fit) in
+      let b : length (u ∷ us) ≤ 64 =
+          subst (λ n. n ≤ 64) (length-map (u ∷ us) size_of) (at-most (length (map size_of (u ∷ us))) (size_of t).is_string fit) in
       subst (λ x. (w : Writing) × Written names (Tuple (x ∷ u ∷ us)) w (behind_bar names w) × Alone (Tuple (x ∷ u ∷ us))) (sym k.1)
       (called names k.0 (u ∷ us), written-call names k.0 u us, call-alone k.0 u us e.1 (small-others t (u ∷ us) small) b)
   many-alone t u us e fit small (inr k) =
-      let b : length (u ∷ us) ≤ 63 = subst (λ n. n ≤ 63) (length-map (u ∷ us) size_of) (at-most-63 (length (map size_of (u ∷ us))) (size_of t).is_string k.1 fit) in
+      let b : length (u ∷ us) ≤ 63 =
+          subst (λ n. n ≤ 63) (length-map (u ∷ us) size_of) (at-most-63 (length (map size_of (u ∷ us))) (size_of t).is_string k.1 fit) in
       let w = written-braces names t u us k.0 in
       (braced names (t ∷ u ∷ us), w, braces-alone t (u ∷ us) e small (omega (arith, b)) w)
 
@@ -331,9 +393,11 @@ module _ (names : List Text) where
   each-term (t ∷ ts) = (at-term t, each-term ts)
 
 -- a small term has a tree, wherever its variables may stand
-pub term-reads : (names : List Text) (t : Term) (p : Position) → is_small_term t ≡ true → are_next p.count (term_variables t) ≡ true → TermReads names t p
+pub term-reads : (names : List Text) (t : Term) (p : Position) → is_small_term t ≡ true → are_next p.count (term_variables t) ≡ true
+    → TermReads names t p
 term-reads names t p s n = (at-term names t s).0 p n
 
 -- so have arguments or parts
-pub parts-read : (names : List Text) (t : Term) (ts : List Term) (p : Position) → are_small_terms (t ∷ ts) ≡ true → length (t ∷ ts) ≤ 64 → are_next p.count (terms_variables (t ∷ ts)) ≡ true → PartsRead names t ts p
+pub parts-read : (names : List Text) (t : Term) (ts : List Term) (p : Position) → are_small_terms (t ∷ ts) ≡ true → length (t ∷ ts) ≤ 64
+    → are_next p.count (terms_variables (t ∷ ts)) ≡ true → PartsRead names t ts p
 parts-read names t ts p s b n = parts names t ts (each-term names (t ∷ ts)) p s n b

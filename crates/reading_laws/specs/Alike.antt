@@ -70,7 +70,9 @@ module _ (renumber : ℕ → ℕ) where
   items_with = map item_with
 
   abbrev pub clause_with : Clause → Clause
-  clause_with c = record { at = 0; head = string_with c.head; args = terms_with c.args; guard = items_with c.guard; body = items_with c.body; vars = c.vars }
+  clause_with c =
+      record { at = 0; head = string_with c.head; args = terms_with c.args; guard = items_with c.guard; body = items_with c.body;
+      vars = c.vars }
 
   abbrev pub export_with : Export → Export
   export_with e = record { at = 0; name = string_with e.name; arity = e.arity }
@@ -81,7 +83,9 @@ module _ (renumber : ℕ → ℕ) where
 
   -- a module with its strings renumbered, and all at no place
   unfoldable pub module_with : Module → Module
-  module_with m = record { name = name_with m.name; again = somewhere m.again; other = somewhere m.other; exports = exports_with m.exports; clauses = map clause_with m.clauses }
+  module_with m =
+      record { name = name_with m.name; again = somewhere m.again; other = somewhere m.other; exports = exports_with m.exports;
+      clauses = map clause_with m.clauses }
 
 -- a string by its text, as `g` numbers texts
 abbrev pub by_text : (Text → ℕ) → List Text → ℕ → ℕ
@@ -89,4 +93,5 @@ by_text g names s = g (name_at names s)
 
 -- Both modules say the same. A string has the number that its text has among the strings of both.
 abbrev pub AreAlike : List Text → Module → List Text → Module → Type 0
-AreAlike names m others o = module_with (by_text (number_of (names ++ others)) names) m ≡ module_with (by_text (number_of (names ++ others)) others) o
+AreAlike names m others o =
+    module_with (by_text (number_of (names ++ others)) names) m ≡ module_with (by_text (number_of (names ++ others)) others) o

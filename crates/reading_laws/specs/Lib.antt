@@ -1,6 +1,6 @@
-pub mod PieceWords
+pub mod PieceTerminals
 pub mod Variables
 pub mod Readable
 pub mod Alike
-pub mod WordOrder
+pub mod TerminalOrder
 pub mod CanonicalReading

@@ -1,5 +1,5 @@
 -- Modules of which no part is one too many, and whose variables are numbered in the order of the text.
-use Rattle.std.specs.Prelude.{ℕ, ◌+◌, Bool, true, false, ◌&&◌, nat_le, List, [], ◌∷◌, length, if◌then◌else◌, Option, Some, None, is_none}
+use Rattle.std.specs.Prelude.{ℕ, ◌+◌, ◌-◌, Bool, true, false, ◌&&◌, nat_le, List, [], ◌∷◌, length, if◌then◌else◌, Option, Some, None, is_none}
 use Rattle.std.specs.List.{list_all}
 use Rattle.fcp_model.specs.declared.term.Term.{Term, fold-Term}
 use Rattle.fcp_model.specs.declared.term.Term.TheOpen.{Term-F}
@@ -12,6 +12,7 @@ use Rattle.fcp_model.specs.declared.source.Clause.{Clause}
 use Rattle.fcp_model.specs.declared.source.Export.{Export}
 use Rattle.fcp_model.specs.declared.source.Module.{Module}
 use Rattle.reading_laws.specs.Variables.{is_numbered}
+use Rattle.fcp_grammar.specs.Limits.{most_arguments, most_items, most_operators}
 
 -- a term has no tuple of too many parts or of none, and whether it is a string
 pub record Size : Type 0 where
@@ -22,10 +23,11 @@ pub record Size : Type 0 where
 abbrev pub no_string : Bool → Size
 no_string b = record { small = b; is_string = false }
 
--- a tuple that begins with a string has at most 64 parts behind it, and any other at most 64; none has no parts
+-- a tuple that begins with a string has at most `most_arguments` parts behind it, and any other at most as many in all; none has
+-- no parts
 abbrev pub parts_fit : List Size → Bool
 parts_fit [] = false
-parts_fit (t ∷ ts) = nat_le (length ts) (if t.is_string then 64 else 63)
+parts_fit (t ∷ ts) = nat_le (length ts) (if t.is_string then most_arguments else most_arguments - 1)
 
 -- one level of a term
 abbrev pub size_step : Term-F Size → Size
@@ -67,18 +69,18 @@ operators_step (Expr-F.Op op left right) = left + right + 1
 unfoldable pub operators_of : Expr → ℕ
 operators_of = fold-Expr ℕ operators_step
 
--- what an item says has at most 64 arguments and at most 256 operators
+-- what an item says has no argument and no operator too many
 abbrev pub is_small_call : Call → Bool
-is_small_call (User name args) = nat_le (length args) 64 && are_small_terms args
+is_small_call (User name args) = nat_le (length args) most_arguments && are_small_terms args
 is_small_call (Unify a b) = is_small_term a && is_small_term b
-is_small_call (Assign a e) = is_small_term a && is_small_expr e && nat_le (operators_of e) 256
+is_small_call (Assign a e) = is_small_term a && is_small_expr e && nat_le (operators_of e) most_operators
 is_small_call (Same a b) = is_small_term a && is_small_term b
 is_small_call (NotSame a b) = is_small_term a && is_small_term b
-is_small_call (Compare op d e) = is_small_expr d && is_small_expr e && nat_le (operators_of d + operators_of e) 256
+is_small_call (Compare op d e) = is_small_expr d && is_small_expr e && nat_le (operators_of d + operators_of e) most_operators
 
--- at most 256 items
+-- no item too many
 abbrev pub are_small_items : List Item → Bool
-are_small_items is = nat_le (length is) 256 && list_all (λ (i : Item). is_small_call i.call) is
+are_small_items is = nat_le (length is) most_items && list_all (λ (i : Item). is_small_call i.call) is
 
 -- where there is a guard there is a body
 abbrev pub has_body : List Item → List Item → Bool
@@ -88,16 +90,18 @@ has_body (g ∷ gs) (i ∷ is) = true
 
 -- no part of the clause is one too many, and where there is a guard there is a body
 abbrev pub is_small_clause : Clause → Bool
-is_small_clause c = nat_le (length c.args) 64 && are_small_terms c.args && are_small_items c.guard && are_small_items c.body && has_body c.guard c.body
+is_small_clause c =
+    nat_le (length c.args) most_arguments && are_small_terms c.args && are_small_items c.guard && are_small_items c.body
+    && has_body c.guard c.body
 
 -- nor are its variables numbered otherwise than in the order of the text
 abbrev pub is_readable_clause : Clause → Bool
 is_readable_clause c = is_small_clause c && is_numbered c
 
--- at most 64 arguments
+-- no argument too many
 abbrev pub are_small_exports : Option (List Export) → Bool
 are_small_exports None = true
-are_small_exports (Some es) = list_all (λ (e : Export). nat_le e.arity 64) es
+are_small_exports (Some es) = list_all (λ (e : Export). nat_le e.arity most_arguments) es
 
 -- a module with no second name and no unknown attribute
 unfoldable pub is_readable : Module → Bool

@@ -9,7 +9,7 @@ use Rattle.fcp_model.specs.declared.source.Call.{Call}
 use Rattle.fcp_model.specs.declared.source.Call.TheVariants.{User, Unify, Assign, Same, NotSame, Compare}
 use Rattle.fcp_model.specs.declared.source.Item.{Item}
 use Rattle.fcp_model.specs.declared.source.Clause.{Clause}
-use Rattle.reading_laws.specs.PieceWords.{with_number, is_next}
+use Rattle.reading_laws.specs.PieceTerminals.{with_number, is_next}
 
 -- one level of a term, from the variables of its parts
 abbrev pub variables_step : Term-F (List ℕ) → List ℕ

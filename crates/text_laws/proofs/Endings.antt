@@ -29,7 +29,8 @@ found l n ms true e h r = (0, ap (λ i. Some (l.0, i)) (same l.1 n e))
     same a b h = grind (arith, nat_tests)
 found l n ms false e h r = let g : (k : ℕ) × (slice_get ms k ≡ Some (row_text (find (numbered n) ms), n)) = r h in (suc g.0, g.1)
 
-row-of : (ms : List (Text × ℕ)) (n : ℕ) → list_any (numbered n) ms ≡ true → (k : ℕ) × (slice_get ms k ≡ Some (row_text (find (numbered n) ms), n))
+row-of : (ms : List (Text × ℕ)) (n : ℕ) → list_any (numbered n) ms ≡ true
+    → (k : ℕ) × (slice_get ms k ≡ Some (row_text (find (numbered n) ms), n))
 row-of [] n h = absurd (cc)
 row-of (l ∷ ms) n h = found l n ms (l.1 == n) refl h (λ g. row-of ms n g)
 
@@ -66,7 +67,8 @@ abbrev begins_ending : Text → Bool
 begins_ending [] = false
 begins_ending (b ∷ z) = is_ending b
 
-ending-in : (ms : List (Text × ℕ)) (k : ℕ) (m : Text × ℕ) → list_all (λ m. begins_ending m.0) ms ≡ true → slice_get ms k ≡ Some m → begins_ending m.0 ≡ true
+ending-in : (ms : List (Text × ℕ)) (k : ℕ) (m : Text × ℕ) → list_all (λ m. begins_ending m.0) ms ≡ true → slice_get ms k ≡ Some m
+    → begins_ending m.0 ≡ true
 ending-in [] k m e h = absurd (cc)
 ending-in (l ∷ ms) zero m e h = let g : l ≡ m = cc in subst (λ m. begins_ending m.0 ≡ true) g (and-first (begins_ending l.0) _ e)
 ending-in (l ∷ ms) (suc k) m e h = ending-in ms k m (and-second (begins_ending l.0) _ e) h
@@ -90,7 +92,9 @@ ends-token s (space ∷ ps) e f = ends-by (codes " " ++ spellings_text ps) refl
 ends-token s (line_feed ∷ ps) e f = ends-by (codes "\n" ++ spellings_text ps) refl
 
 lower-ends : (b : ℕ) (z : Text) → is_ascii_lowercase b ≡ true → EndsMark (b ∷ z)
-lower-ends b z h = record { no_equal = grind (arith, nat_tests); no_minus = grind (arith, nat_tests); no_colon = grind (arith, nat_tests); no_less = grind (arith, nat_tests); no_back = grind (arith, nat_tests); no_digit = grind (arith, nat_tests) }
+lower-ends b z h =
+    record { no_equal = grind (arith, nat_tests); no_minus = grind (arith, nat_tests); no_colon = grind (arith, nat_tests);
+    no_less = grind (arith, nat_tests); no_back = grind (arith, nat_tests); no_digit = grind (arith, nat_tests) }
 
 name-ends : (bs z : Text) → is_name bs ≡ true → EndsMark (bs ++ z)
 name-ends [] z h = absurd (cc)
@@ -104,7 +108,8 @@ pub ends-sign : (ps : List Spelling) → EndsSign ps → EndsMark (spellings_tex
 ends-sign [] e = record { no_equal = refl; no_minus = refl; no_colon = refl; no_less = refl; no_back = refl; no_digit = refl }
 ends-sign (string bs ∷ ps) e = string-ends (is_name bs) bs (spellings_text ps) refl
 ends-sign (number i ∷ ps) e = absurd e
-ends-sign (variable k ∷ ps) e = record { no_equal = refl; no_minus = refl; no_colon = refl; no_less = refl; no_back = refl; no_digit = refl }
+ends-sign (variable k ∷ ps) e =
+    record { no_equal = refl; no_minus = refl; no_colon = refl; no_less = refl; no_back = refl; no_digit = refl }
 ends-sign (mark n ∷ ps) e = absurd e
 ends-sign (space ∷ ps) e = record { no_equal = refl; no_minus = refl; no_colon = refl; no_less = refl; no_back = refl; no_digit = refl }
 ends-sign (line_feed ∷ ps) e = record { no_equal = refl; no_minus = refl; no_colon = refl; no_less = refl; no_back = refl; no_digit = refl }

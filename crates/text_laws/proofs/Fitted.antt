@@ -6,6 +6,7 @@ use Rattle.fcp_text.specs.Tokens.{sign_after}
 use Rattle.text_laws.specs.Spellings.{Spelling, mark, mark_text}
 use Rattle.text_laws.specs.Fitting.{EndsToken, EndsSign, Fits, begins_more, is_mark}
 use Rattle.text_laws.specs.TermSpellings.{Writing, each_after, parted_by, comma}
+use Rattle.fcp_text.specs.Signs as signs
 
 -- what may stand behind a token: it fits, whether a sign may stand there or not
 abbrev pub Behind : List Spelling → Type 0
@@ -38,11 +39,12 @@ EachStarts (w ∷ ws) = Starts w × EachStarts ws
 
 pub each-follows : (separator : Writing) (ws : List Writing) → Parts separator → EachStarts ws → Follows (each_after separator ws)
 each-follows separator [] k h ps b = b
-each-follows separator (w ∷ ws) k h ps b = k (w (each_after separator ws ps)) (h.0 (each_after separator ws ps) (each-follows separator ws k h.1 ps b))
+each-follows separator (w ∷ ws) k h ps b =
+    k (w (each_after separator ws ps)) (h.0 (each_after separator ws ps) (each-follows separator ws k h.1 ps b))
 
 pub parted-starts : (separator : Writing) (ws : List Writing) → Parts separator → EachStarts ws → Starts (parted_by separator ws)
 parted-starts separator [] k h ps b = b.1 true
 parted-starts separator (w ∷ ws) k h ps b = h.0 (each_after separator ws ps) (each-follows separator ws k h.1 ps b)
 
 pub comma-parts : Parts comma
-comma-parts = opens 7 refl refl refl
+comma-parts = opens signs.comma refl refl refl

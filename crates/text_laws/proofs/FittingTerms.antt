@@ -14,6 +14,7 @@ use Rattle.text_laws.specs.Fitting.{Fits, StandsThere, IsOneLine, sign_behind}
 use Rattle.text_laws.specs.TermSpellings.{Writing, TermSpelling, comma, spelled_no_list, spelled_parts, spelled_in_braces, spelled_call, spelled_tuple, spelling_step, term_spelling, term_spellings, terms_spellings}
 use Rattle.text_laws.specs.Writable.{is_int, is_number, writable_step, is_writable_term}
 use Rattle.text_laws.proofs.Fitted.{Behind, Starts, Follows, closes, opens, EachStarts, parted-starts, comma-parts}
+use Rattle.fcp_text.specs.Signs as signs
 
 -- the pieces of a term fit, alone and as the rest of a list
 pub record FitsTerm (a : TermSpelling) : Type 0 where
@@ -23,7 +24,9 @@ pub record FitsTerm (a : TermSpelling) : Type 0 where
 no_list-fits : (c : Bool) (w : Writing) → Starts w → FitsTerm (spelled_no_list c w)
 no_list-fits c w h = record {
   alone = h;
-  as_rest = λ ps b. opens 6 refl refl refl (w (mark 3 ∷ ps)) (h (mark 3 ∷ ps) (closes 3 refl refl ps b));
+  as_rest =
+      λ ps b. opens signs.bar refl refl refl (w (mark signs.square_close ∷ ps))
+      (h (mark signs.square_close ∷ ps) (closes signs.square_close refl refl ps b));
 }
 
 abbrev AllFit : List TermSpelling → Type 0
@@ -38,11 +41,15 @@ parts-fit : (xs : List TermSpelling) → AllFit xs → Starts (spelled_parts xs)
 parts-fit xs h = parted-starts comma (map (λ (t : TermSpelling). t.alone) xs) comma-parts (alone-fit xs h)
 
 braces-fit : (xs : List TermSpelling) → AllFit xs → Starts (spelled_in_braces xs)
-braces-fit xs h ps b = (opens 4 refl refl refl (spelled_parts xs (mark 5 ∷ ps)) (parts-fit xs h (mark 5 ∷ ps) (closes 5 refl refl ps b))).1 true
+braces-fit xs h ps b =
+    (opens signs.curly_open refl refl refl (spelled_parts xs (mark signs.curly_close ∷ ps))
+    (parts-fit xs h (mark signs.curly_close ∷ ps) (closes signs.curly_close refl refl ps b))).1 true
 
 call-fits : (a : TermSpelling) (xs : List TermSpelling) → FitsTerm a → AllFit xs → Starts (spelled_call a xs)
 call-fits a xs e h ps b =
-    e.alone (mark 0 ∷ spelled_parts xs (mark 1 ∷ ps)) (opens 0 refl refl refl (spelled_parts xs (mark 1 ∷ ps)) (parts-fit xs h (mark 1 ∷ ps) (closes 1 refl refl ps b)))
+    e.alone (mark signs.round_open ∷ spelled_parts xs (mark signs.round_close ∷ ps))
+        (opens signs.round_open refl refl refl (spelled_parts xs (mark signs.round_close ∷ ps))
+        (parts-fit xs h (mark signs.round_close ∷ ps) (closes signs.round_close refl refl ps b)))
 
 choice-fits : (c : Bool) (w v : Writing) → Starts w → Starts v → Starts (if c then w else v)
 choice-fits true w v e f = e
@@ -51,7 +58,9 @@ choice-fits false w v e f = f
 tuple-fits : (xs : List TermSpelling) → AllFit xs → Starts (spelled_tuple xs)
 tuple-fits [] h = braces-fit [] h
 tuple-fits (a ∷ []) h = braces-fit (a ∷ []) h
-tuple-fits (a ∷ d ∷ xs) h = choice-fits a.is_string (spelled_call a (d ∷ xs)) (spelled_in_braces (a ∷ d ∷ xs)) (call-fits a (d ∷ xs) h.0 h.1) (braces-fit (a ∷ d ∷ xs) h)
+tuple-fits (a ∷ d ∷ xs) h =
+    choice-fits a.is_string (spelled_call a (d ∷ xs)) (spelled_in_braces (a ∷ d ∷ xs)) (call-fits a (d ∷ xs) h.0 h.1)
+    (braces-fit (a ∷ d ∷ xs) h)
 
 below : (n k : ℕ) → nat_lt n k ≡ true → n < k
 below n k h = grind (arith, nat_tests)
@@ -88,8 +97,10 @@ module _ (names : List Text) (lines : (k : ℕ) → IsOneLine (name_at names k))
   at-nil h =
       by-step Nil _ (fold-Nil TermSpelling (spelling_step names))
       (record {
-        alone = λ ps b. (opens 2 refl refl refl (mark 3 ∷ ps) ((closes 3 refl refl ps b).1 true)).1 true;
-        as_rest = closes 3 refl refl;
+        alone =
+            λ ps b. (opens signs.square_open refl refl refl (mark signs.square_close ∷ ps)
+            ((closes signs.square_close refl refl ps b).1 true)).1 true;
+        as_rest = closes signs.square_close refl refl;
       })
 
   at-cons : (h t : Term) → At h → At t → At (Cons h t)
@@ -102,8 +113,8 @@ module _ (names : List Text) (lines : (k : ℕ) → IsOneLine (name_at names k))
       let j : FitsTerm y = f (and-second (is_writable_term h) (is_writable_term t) g) in
       by-step (Cons h t) _ (fold-Cons TermSpelling (spelling_step names) h t)
       (record {
-        alone = λ ps b. (opens 2 refl refl refl (x.alone (y.as_rest ps)) (i.alone (y.as_rest ps) (j.as_rest ps b))).1 true;
-        as_rest = λ ps b. opens 7 refl refl refl (x.alone (y.as_rest ps)) (i.alone (y.as_rest ps) (j.as_rest ps b));
+        alone = λ ps b. (opens signs.square_open refl refl refl (x.alone (y.as_rest ps)) (i.alone (y.as_rest ps) (j.as_rest ps b))).1 true;
+        as_rest = λ ps b. opens signs.comma refl refl refl (x.alone (y.as_rest ps)) (i.alone (y.as_rest ps) (j.as_rest ps b));
       })
 
   at-each : (ts : List Term) → Each At ts → list_all (λ t. t) (map is_writable_term ts) ≡ true → AllFit (map (term_spelling names) ts)
@@ -129,7 +140,9 @@ module _ (names : List Text) (lines : (k : ℕ) → IsOneLine (name_at names k))
   at-ro k h =
       let g : is_number k ≡ true = sym (fold-Ro Bool writable_step k) ∙ h in
       by-step (Ro k) _ (fold-Ro TermSpelling (spelling_step names) k)
-      (no_list-fits false (λ ps. variable k ∷ mark 9 ∷ ps) (λ ps b. let c : Behind (mark 9 ∷ ps) = closes 9 refl refl ps b in (below k (2 ^ 64) g, c.0, c.1 false)))
+      (no_list-fits false (λ ps. variable k ∷ mark signs.question ∷ ps)
+          (λ ps b. let c : Behind (mark signs.question ∷ ps) = closes signs.question refl refl ps b in
+          (below k (2 ^ 64) g, c.0, c.1 false)))
 
   at-term : (t : Term) → At t
   at-term = term_induction At at-int at-str at-nil at-cons at-tuple at-var at-ro

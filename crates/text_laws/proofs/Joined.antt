@@ -19,7 +19,8 @@ EachSpells [] (z ∷ zs) = ⊥
 EachSpells (w ∷ ws) [] = ⊥
 EachSpells (w ∷ ws) (z ∷ zs) = Spells w z × EachSpells ws zs
 
-each-then : (separator : Writing) (m : Text) (ws : List Writing) (zs : List Text) → Spells separator m → EachSpells ws zs → Spells (each_after separator ws) (each_behind m zs)
+each-then : (separator : Writing) (m : Text) (ws : List Writing) (zs : List Text) → Spells separator m → EachSpells ws zs
+    → Spells (each_after separator ws) (each_behind m zs)
 each-then separator m [] [] e es = λ ps. refl
 each-then separator m [] (z ∷ zs) e es = absurd es
 each-then separator m (w ∷ ws) [] e es = absurd es
@@ -27,8 +28,10 @@ each-then separator m (w ∷ ws) (z ∷ zs) e es =
     joined separator (λ ps. w (each_after separator ws ps)) m (z ++ each_behind m zs) e
     (joined w (each_after separator ws) z (each_behind m zs) es.0 (each-then separator m ws zs e es.1))
 
-pub parted-then : (separator : Writing) (m : Text) (ws : List Writing) (zs : List Text) → Spells separator m → EachSpells ws zs → Spells (parted_by separator ws) (parted m zs)
+pub parted-then : (separator : Writing) (m : Text) (ws : List Writing) (zs : List Text) → Spells separator m → EachSpells ws zs
+    → Spells (parted_by separator ws) (parted m zs)
 parted-then separator m [] [] e es = λ ps. refl
 parted-then separator m [] (z ∷ zs) e es = absurd es
 parted-then separator m (w ∷ ws) [] e es = absurd es
-parted-then separator m (w ∷ ws) (z ∷ zs) e es = joined w (each_after separator ws) z (each_behind m zs) es.0 (each-then separator m ws zs e es.1)
+parted-then separator m (w ∷ ws) (z ∷ zs) e es =
+    joined w (each_after separator ws) z (each_behind m zs) es.0 (each-then separator m ws zs e es.1)

@@ -11,6 +11,7 @@ use Rattle.fcp_text.specs.SourceTerms.{TermTexts, no_list, parts_of, in_braces, 
 use Rattle.text_laws.specs.Spellings.{string, number, variable, mark}
 use Rattle.text_laws.specs.TermSpellings.{Writing, TermSpelling, comma, spelled_no_list, spelled_parts, spelled_in_braces, spelled_call, spelled_tuple, spelling_step, term_spelling, term_spellings, terms_spellings}
 use Rattle.text_laws.proofs.Joined.{Spells, joined, EachSpells, parted-then}
+use Rattle.fcp_text.specs.Signs as signs
 
 -- the pieces and the texts of a term say the same
 pub record Agree (a : TermSpelling) (b : TermTexts) : Type 0 where
@@ -21,7 +22,9 @@ pub record Agree (a : TermSpelling) (b : TermTexts) : Type 0 where
 no_list-agrees : (c : Bool) (w : Writing) (z : Text) → Spells w z → Agree (spelled_no_list c w) (no_list c z)
 no_list-agrees c w z e = record {
   alone = e;
-  as_rest = joined (λ ps. mark 6 ∷ ps) (λ ps. w (mark 3 ∷ ps)) (codes "|") (z ++ codes "]") (λ ps. refl) (joined w (λ ps. mark 3 ∷ ps) z (codes "]") e (λ ps. refl));
+  as_rest =
+      joined (λ ps. mark signs.bar ∷ ps) (λ ps. w (mark signs.square_close ∷ ps)) (codes "|") (z ++ codes "]") (λ ps. refl)
+      (joined w (λ ps. mark signs.square_close ∷ ps) z (codes "]") e (λ ps. refl));
   is_string = refl;
 }
 
@@ -32,29 +35,38 @@ AllAgree [] (b ∷ bs) = ⊥
 AllAgree (a ∷ xs) [] = ⊥
 AllAgree (a ∷ xs) (b ∷ bs) = Agree a b × AllAgree xs bs
 
-alone-agree : (xs : List TermSpelling) (bs : List TermTexts) → AllAgree xs bs → EachSpells (map (λ (t : TermSpelling). t.alone) xs) (map (λ (t : TermTexts). t.alone) bs)
+alone-agree : (xs : List TermSpelling) (bs : List TermTexts) → AllAgree xs bs
+    → EachSpells (map (λ (t : TermSpelling). t.alone) xs) (map (λ (t : TermTexts). t.alone) bs)
 alone-agree [] [] h = tt
 alone-agree [] (b ∷ bs) h = absurd h
 alone-agree (a ∷ xs) [] h = absurd h
 alone-agree (a ∷ xs) (b ∷ bs) h = (h.0.alone, alone-agree xs bs h.1)
 
 parts-agree : (xs : List TermSpelling) (bs : List TermTexts) → AllAgree xs bs → Spells (spelled_parts xs) (parts_of bs)
-parts-agree xs bs h = parted-then comma (codes ",") (map (λ (t : TermSpelling). t.alone) xs) (map (λ (t : TermTexts). t.alone) bs) (λ ps. refl) (alone-agree xs bs h)
+parts-agree xs bs h =
+    parted-then comma (codes ",") (map (λ (t : TermSpelling). t.alone) xs) (map (λ (t : TermTexts). t.alone) bs) (λ ps. refl)
+    (alone-agree xs bs h)
 
 -- a text between two marks
-between : (w : Writing) (z : Text) (m n : ℕ) (x y : Text) → Spells (λ ps. mark m ∷ ps) x → Spells (λ ps. mark n ∷ ps) y → Spells w z → Spells (λ ps. mark m ∷ w (mark n ∷ ps)) (x ++ (z ++ y))
+between : (w : Writing) (z : Text) (m n : ℕ) (x y : Text) → Spells (λ ps. mark m ∷ ps) x → Spells (λ ps. mark n ∷ ps) y → Spells w z
+    → Spells (λ ps. mark m ∷ w (mark n ∷ ps)) (x ++ (z ++ y))
 between w z m n x y e f g = joined (λ ps. mark m ∷ ps) (λ ps. w (mark n ∷ ps)) x (z ++ y) e (joined w (λ ps. mark n ∷ ps) z y g f)
 
 braces-agree : (xs : List TermSpelling) (bs : List TermTexts) → AllAgree xs bs → Spells (spelled_in_braces xs) (in_braces bs)
-braces-agree xs bs h = between (spelled_parts xs) (parts_of bs) 4 5 (codes "{") (codes "}") (λ ps. refl) (λ ps. refl) (parts-agree xs bs h)
+braces-agree xs bs h =
+    between (spelled_parts xs) (parts_of bs) signs.curly_open signs.curly_close (codes "{") (codes "}") (λ ps. refl) (λ ps. refl)
+    (parts-agree xs bs h)
 
 call-agrees : (a : TermSpelling) (b : TermTexts) (xs : List TermSpelling) (bs : List TermTexts) → Agree a b → AllAgree xs bs
     → Spells (spelled_call a xs) (b.alone ++ (codes "(" ++ parts_of bs ++ codes ")"))
 call-agrees a b xs bs e h =
-    joined a.alone (λ ps. mark 0 ∷ spelled_parts xs (mark 1 ∷ ps)) b.alone (codes "(" ++ parts_of bs ++ codes ")") e.alone
-    (between (spelled_parts xs) (parts_of bs) 0 1 (codes "(") (codes ")") (λ ps. refl) (λ ps. refl) (parts-agree xs bs h))
+    joined a.alone (λ ps. mark signs.round_open ∷ spelled_parts xs (mark signs.round_close ∷ ps)) b.alone
+        (codes "(" ++ parts_of bs ++ codes ")") e.alone
+    (between (spelled_parts xs) (parts_of bs) signs.round_open signs.round_close (codes "(") (codes ")") (λ ps. refl) (λ ps. refl)
+        (parts-agree xs bs h))
 
-choice-agrees : (c d : Bool) (w v : Writing) (x y : Text) → c ≡ d → Spells w x → Spells v y → Spells (if c then w else v) (if d then x else y)
+choice-agrees : (c d : Bool) (w v : Writing) (x y : Text) → c ≡ d → Spells w x → Spells v y
+    → Spells (if c then w else v) (if d then x else y)
 choice-agrees true true w v x y h e f = e
 choice-agrees true false w v x y h e f = absurd (cc)
 choice-agrees false true w v x y h e f = absurd (cc)
@@ -108,15 +120,16 @@ module _ (names : List Text) where
       let r : Spells (λ ps. x.alone (y.as_rest ps)) (u.alone ++ v.as_rest) = joined x.alone y.as_rest u.alone v.as_rest e.alone f.as_rest in
       by-step (Cons h t) _ _ (fold-Cons TermSpelling (spelling_step names) h t) (fold-Cons TermTexts (text_step names) h t)
       (record {
-        alone = joined (λ ps. mark 2 ∷ ps) (λ ps. x.alone (y.as_rest ps)) (codes "[") (u.alone ++ v.as_rest) (λ ps. refl) r;
-        as_rest = joined (λ ps. mark 7 ∷ ps) (λ ps. x.alone (y.as_rest ps)) (codes ",") (u.alone ++ v.as_rest) (λ ps. refl) r;
+        alone = joined (λ ps. mark signs.square_open ∷ ps) (λ ps. x.alone (y.as_rest ps)) (codes "[") (u.alone ++ v.as_rest) (λ ps. refl) r;
+        as_rest = joined (λ ps. mark signs.comma ∷ ps) (λ ps. x.alone (y.as_rest ps)) (codes ",") (u.alone ++ v.as_rest) (λ ps. refl) r;
         is_string = refl;
       })
 
   at-tuple : (ts : List Term) → Each At ts → At (Tuple ts)
   at-tuple ts h =
       by-step (Tuple ts) _ _ (fold-Tuple TermSpelling (spelling_step names) ts) (fold-Tuple TermTexts (text_step names) ts)
-      (no_list-agrees false (spelled_tuple (map (term_spelling names) ts)) (tuple_of (map (term_texts names) ts)) (tuple-agrees (map (term_spelling names) ts) (map (term_texts names) ts) (at-each ts h)))
+      (no_list-agrees false (spelled_tuple (map (term_spelling names) ts)) (tuple_of (map (term_texts names) ts))
+          (tuple-agrees (map (term_spelling names) ts) (map (term_texts names) ts) (at-each ts h)))
 
   at-var : (k : ℕ) → At (Var k)
   at-var k =
@@ -126,8 +139,8 @@ module _ (names : List Text) where
   at-ro : (k : ℕ) → At (Ro k)
   at-ro k =
       by-step (Ro k) _ _ (fold-Ro TermSpelling (spelling_step names) k) (fold-Ro TermTexts (text_step names) k)
-      (no_list-agrees false (λ ps. variable k ∷ mark 9 ∷ ps) (codes "V" ++ decimal k ++ codes "?")
-      (joined (λ ps. variable k ∷ ps) (λ ps. mark 9 ∷ ps) (codes "V" ++ decimal k) (codes "?") (λ ps. refl) (λ ps. refl)))
+      (no_list-agrees false (λ ps. variable k ∷ mark signs.question ∷ ps) (codes "V" ++ decimal k ++ codes "?")
+      (joined (λ ps. variable k ∷ ps) (λ ps. mark signs.question ∷ ps) (codes "V" ++ decimal k) (codes "?") (λ ps. refl) (λ ps. refl)))
 
   at-term : (t : Term) → At t
   at-term = term_induction At at-int at-str at-nil at-cons at-tuple at-var at-ro

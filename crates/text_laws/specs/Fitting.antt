@@ -9,6 +9,7 @@ use Rattle.fcp_text.specs.Bytes.{Text}
 use Rattle.fcp_text.specs.Marks.{marks}
 use Rattle.fcp_text.specs.Tokens.{sign_after}
 use Rattle.text_laws.specs.Spellings.{Spelling, string, number, variable, mark, space, line_feed, mark_text}
+use Rattle.fcp_text.specs.Signs as signs
 
 -- no byte is a line feed
 abbrev pub is_line : Text → Bool
@@ -44,7 +45,7 @@ EndsSign (line_feed ∷ ps) = Unit {0}
 
 -- the mark is such a one: `=`, `>`, `-` or `:`
 abbrev pub begins_more : ℕ → Bool
-begins_more n = n == 12 || n == 17 || n == 22 || n == 25
+begins_more n = n == signs.equals || n == signs.greater || n == signs.minus || n == signs.colon
 
 -- a number of 64 bits; a negative one stands where a sign may stand
 abbrev pub StandsThere : Bool → ℤ → Type 0

@@ -5,6 +5,7 @@ use Rattle.fcp_model.specs.declared.term.Term.TheOpen.{Term-F}
 use Rattle.fcp_model.specs.Spelling.{name_at}
 use Rattle.fcp_text.specs.Bytes.{Text}
 use Rattle.text_laws.specs.Spellings.{Spelling, string, number, variable, mark}
+use Rattle.fcp_text.specs.Signs as signs
 
 -- pieces, put before those that follow them
 abbrev pub Writing : Type 0
@@ -22,7 +23,7 @@ parted_by separator (w ∷ ws) ps = w (each_after separator ws ps)
 
 -- a comma
 abbrev pub comma : Writing
-comma ps = mark 7 ∷ ps
+comma ps = mark signs.comma ∷ ps
 
 -- a term where it stands alone, where it is the rest of a list, up to its `]`, and whether it is a string
 pub record TermSpelling : Type 0 where
@@ -32,7 +33,7 @@ pub record TermSpelling : Type 0 where
 
 -- a term that is no list: as the rest of one it stands behind a bar
 abbrev pub spelled_no_list : Bool → Writing → TermSpelling
-spelled_no_list c w = record { alone = w; as_rest = λ ps. mark 6 ∷ w (mark 3 ∷ ps); is_string = c }
+spelled_no_list c w = record { alone = w; as_rest = λ ps. mark signs.bar ∷ w (mark signs.square_close ∷ ps); is_string = c }
 
 -- parts with commas between them
 abbrev pub spelled_parts : List TermSpelling → Writing
@@ -40,11 +41,11 @@ spelled_parts ts = parted_by comma (map (λ (t : TermSpelling). t.alone) ts)
 
 -- the same in braces
 abbrev pub spelled_in_braces : List TermSpelling → Writing
-spelled_in_braces ts ps = mark 4 ∷ spelled_parts ts (mark 5 ∷ ps)
+spelled_in_braces ts ps = mark signs.curly_open ∷ spelled_parts ts (mark signs.curly_close ∷ ps)
 
 -- a string with more parts behind it, which stand in parentheses
 abbrev pub spelled_call : TermSpelling → List TermSpelling → Writing
-spelled_call t ts ps = t.alone (mark 0 ∷ spelled_parts ts (mark 1 ∷ ps))
+spelled_call t ts ps = t.alone (mark signs.round_open ∷ spelled_parts ts (mark signs.round_close ∷ ps))
 
 -- a tuple is written as a call where its first part is a string and more follow, and else in braces
 abbrev pub spelled_tuple : List TermSpelling → Writing
@@ -57,11 +58,15 @@ module _ (names : List Text) where
   abbrev pub spelling_step : Term-F TermSpelling → TermSpelling
   spelling_step (Term-F.Int n) = spelled_no_list false (λ ps. number n ∷ ps)
   spelling_step (Term-F.Str s) = spelled_no_list true (λ ps. string (name_at names s.0) ∷ ps)
-  spelling_step Term-F.Nil = record { alone = λ ps. mark 2 ∷ mark 3 ∷ ps; as_rest = λ ps. mark 3 ∷ ps; is_string = false }
-  spelling_step (Term-F.Cons h t) = record { alone = λ ps. mark 2 ∷ h.alone (t.as_rest ps); as_rest = λ ps. mark 7 ∷ h.alone (t.as_rest ps); is_string = false }
+  spelling_step Term-F.Nil =
+      record { alone = λ ps. mark signs.square_open ∷ mark signs.square_close ∷ ps; as_rest = λ ps. mark signs.square_close ∷ ps;
+      is_string = false }
+  spelling_step (Term-F.Cons h t) =
+      record { alone = λ ps. mark signs.square_open ∷ h.alone (t.as_rest ps); as_rest = λ ps. mark signs.comma ∷ h.alone (t.as_rest ps);
+      is_string = false }
   spelling_step (Term-F.Tuple ts) = spelled_no_list false (spelled_tuple ts)
   spelling_step (Term-F.Var k) = spelled_no_list false (λ ps. variable k ∷ ps)
-  spelling_step (Term-F.Ro k) = spelled_no_list false (λ ps. variable k ∷ mark 9 ∷ ps)
+  spelling_step (Term-F.Ro k) = spelled_no_list false (λ ps. variable k ∷ mark signs.question ∷ ps)
 
   -- a term, alone and as the rest of a list
   abbrev pub term_spelling : Term → TermSpelling

@@ -27,11 +27,15 @@ WhatIsWrittenIsRead = (ps : List Spelling) → Fits true ps → read_in (spellin
 
 -- their text is the canonical one, before more pieces
 abbrev pub TermsAreSpelled : Type 0
-TermsAreSpelled = (names : List Text) (t : Term) (ps : List Spelling) → spellings_text (term_spellings names t ps) ≡ term_text names t ++ spellings_text ps
+TermsAreSpelled =
+    (names : List Text) (t : Term) (ps : List Spelling)
+    → spellings_text (term_spellings names t ps) ≡ term_text names t ++ spellings_text ps
 
 -- the spellings of a module make its canonical text
 abbrev pub ModulesAreSpelled : Type 0
-ModulesAreSpelled = (names : List Text) (m : Module) (ps : List Spelling) → spellings_text (module_spellings names m ps) ≡ module_text names m ++ spellings_text ps
+ModulesAreSpelled =
+    (names : List Text) (m : Module) (ps : List Spelling)
+    → spellings_text (module_spellings names m ps) ≡ module_text names m ++ spellings_text ps
 
 -- they fit, where the term or the module is writable
 abbrev pub TermsFit : Type 0
@@ -45,12 +49,17 @@ ModulesFit = (names : List Text) (m : Module) → IsWritable names m → Fits tr
 
 -- the canonical text of a writable term or module is cut into the tokens of its pieces
 abbrev pub TermTextsAreCut : Type 0
-TermTextsAreCut = (names : List Text) (t : Term) → AreWritableNames names → is_writable_term t ≡ true → tokens_of (term_text names t) ≡ Ok (tokens_at 0 (term_spellings names t []))
+TermTextsAreCut =
+    (names : List Text) (t : Term) → AreWritableNames names → is_writable_term t ≡ true
+    → tokens_of (term_text names t) ≡ Ok (tokens_at 0 (term_spellings names t []))
 
 -- the canonical text of a writable module is cut into the tokens that were written
 abbrev pub ModuleTextsAreCut : Type 0
-ModuleTextsAreCut = (names : List Text) (m : Module) → IsWritable names m → tokens_of (module_text names m) ≡ Ok (tokens_at 0 (module_spellings names m []))
+ModuleTextsAreCut =
+    (names : List Text) (m : Module) → IsWritable names m → tokens_of (module_text names m) ≡ Ok (tokens_at 0 (module_spellings names m []))
 
 -- these tokens of a module's text say what its pieces say, but for the gaps
 abbrev pub ModuleTextsAreRead : Type 0
-ModuleTextsAreRead = (names : List Text) (m : Module) → IsWritable names m → read_in (module_text names m) (tokens_at 0 (module_spellings names m [])) ≡ without_gaps (module_spellings names m [])
+ModuleTextsAreRead =
+    (names : List Text) (m : Module) → IsWritable names m
+    → read_in (module_text names m) (tokens_at 0 (module_spellings names m [])) ≡ without_gaps (module_spellings names m [])

@@ -7,7 +7,8 @@ pub loop-at-init : goal.loop-at-init
 loop-at-init c = subst (λ v. Kept c.args.bytes.now v _ 0) (sym c.empty-found.ensures) (none_kept c.args.bytes.now)
 
 pub loop-at-preserved-in-Gap : goal.loop-at-preserved-in-Gap
-loop-at-preserved-in-Gap c = gap_kept c.args.bytes.now c.loop-at.found c.loop-at.may_sign c.loop-at.at c.loop-at.invariant c.in-Gap.len c.in-Gap.ensures.value c.in-Gap.ensures.within
+loop-at-preserved-in-Gap c =
+    gap_kept c.args.bytes.now c.loop-at.found c.loop-at.may_sign c.loop-at.at c.loop-at.invariant c.in-Gap.len c.in-Gap.ensures.value c.in-Gap.ensures.within
 
 pub loop-at-preserved : goal.loop-at-preserved
 loop-at-preserved c =
@@ -16,7 +17,8 @@ loop-at-preserved c =
 
 pub returns-in-Bad : goal.returns-in-Bad
 unfolding tokens_in
-returns-in-Bad c = bad_kept c.args.bytes.now c.loop-at.found c.loop-at.may_sign c.loop-at.at c.loop-at.invariant c.in-Bad.code c.loop-at-test.true c.in-Bad.ensures.value
+returns-in-Bad c =
+    bad_kept c.args.bytes.now c.loop-at.found c.loop-at.may_sign c.loop-at.at c.loop-at.invariant c.in-Bad.code c.loop-at-test.true c.in-Bad.ensures.value
 
 pub returns : goal.returns
 unfolding tokens_in

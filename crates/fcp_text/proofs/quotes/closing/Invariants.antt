@@ -3,7 +3,8 @@ use Rattle.fcp_text.specs.QuotedStrings.{closing}
 use Rattle.fcp_text.proofs.quotes.closing.Given as goal
 
 abbrev pub invariant-loop-text : goal.invariant-loop-text
-invariant-loop-text l = (closing l.quote l.is_second l.at l.text ≡ closing l.quote false 1 l.initial.text) × (l.at + length l.text ≡ length l.initial.text + 1)
+invariant-loop-text l =
+    (closing l.quote l.is_second l.at l.text ≡ closing l.quote false 1 l.initial.text) × (l.at + length l.text ≡ length l.initial.text + 1)
 
 abbrev pub decreases-loop-text : goal.decreases-loop-text
 decreases-loop-text l = length l.text

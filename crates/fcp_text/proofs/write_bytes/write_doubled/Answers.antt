@@ -7,11 +7,14 @@ pub loop-at-init : goal.loop-at-init
 loop-at-init g c = (begin, omega arith)
 
 pub overflow_add-at : goal.overflow_add-at
-overflow_add-at g c = let lt : c.in-Some.at < length c.loop-at.rest.now = quote_within c.loop-at.rest.now c.in-Some.at (sym c.in-Some.ensures) in omega (arith, c.loop-at.invariant.1)
+overflow_add-at g c =
+    let lt : c.in-Some.at < length c.loop-at.rest.now = quote_within c.loop-at.rest.now c.in-Some.at (sym c.in-Some.ensures) in
+    omega (arith, c.loop-at.invariant.1)
 
 pub returns-in_err-put : goal.returns-in_err-put
 returns-in_err-put g c =
-    stop _ c.from_residual.ensures.0 c.in_err-put.ensures _ (moved (quote_step c.loop-at.rest.now c.in-Some.at (sym c.in-Some.ensures)) c.loop-at.invariant.0)
+    stop _ c.from_residual.ensures.0 c.in_err-put.ensures _
+        (moved (quote_step c.loop-at.rest.now c.in-Some.at (sym c.in-Some.ensures)) c.loop-at.invariant.0)
 
 pub returns-in_err-put-2 : goal.returns-in_err-put-2
 returns-in_err-put-2 g c =
@@ -19,12 +22,16 @@ returns-in_err-put-2 g c =
     (go_on c.in_ok-put.ensures (moved (quote_step c.loop-at.rest.now c.in-Some.at (sym c.in-Some.ensures)) c.loop-at.invariant.0))
 
 pub overflow_add-rest : goal.overflow_add-rest
-overflow_add-rest g c = let lt : c.in-Some.at < length c.loop-at.rest.now = quote_within c.loop-at.rest.now c.in-Some.at (sym c.in-Some.ensures) in omega (arith, c.loop-at.invariant.1)
+overflow_add-rest g c =
+    let lt : c.in-Some.at < length c.loop-at.rest.now = quote_within c.loop-at.rest.now c.in-Some.at (sym c.in-Some.ensures) in
+    omega (arith, c.loop-at.invariant.1)
 
 pub loop-at-preserved : goal.loop-at-preserved
 loop-at-preserved g c = (
-  go_on c.in_ok-put-2.ensures (go_on c.in_ok-put.ensures (moved (quote_step c.loop-at.rest.now c.in-Some.at (sym c.in-Some.ensures)) c.loop-at.invariant.0)),
-  let h : length c.loop-at.rest.now ≤ length c.args.bytes.now = c.loop-at.invariant.1 in omega (arith, length-take {A = ℕ}, length-drop {A = ℕ}),
+  go_on c.in_ok-put-2.ensures (go_on c.in_ok-put.ensures
+      (moved (quote_step c.loop-at.rest.now c.in-Some.at (sym c.in-Some.ensures)) c.loop-at.invariant.0)),
+  let h : length c.loop-at.rest.now ≤ length c.args.bytes.now =
+      c.loop-at.invariant.1 in omega (arith, length-take {A = ℕ}, length-drop {A = ℕ}),
 )
 
 pub returns : goal.returns

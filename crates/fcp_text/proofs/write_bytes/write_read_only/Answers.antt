@@ -5,7 +5,8 @@ pub returns-in_err-put : goal.returns-in_err-put
 returns-in_err-put g c = stop _ c.from_residual.ensures.0 c.in_err-put.ensures _ begin
 
 pub returns-in_err-write_count : goal.returns-in_err-write_count
-returns-in_err-write_count g c = stop _ c.from_residual-in_err-write_count.ensures.0 c.in_err-write_count.ensures _ (go_on c.in_ok-put.ensures begin)
+returns-in_err-write_count g c =
+    stop _ c.from_residual-in_err-write_count.ensures.0 c.in_err-write_count.ensures _ (go_on c.in_ok-put.ensures begin)
 
 pub returns : goal.returns
 returns g c = end _ _ _ (go_on c.in_ok-write_count.ensures (go_on c.in_ok-put.ensures begin)) c.put-2.ensures

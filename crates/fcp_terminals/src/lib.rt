@@ -1,0 +1,14 @@
+//! The terminals of Flat Concurrent Prolog texts: their tokens, with the numbers of strings and variables.
+#![tactic(auto)]
+
+mod marks;
+mod places;
+mod strings;
+mod terminals;
+#[cfg(test)]
+mod tests;
+mod variables;
+
+pub use places::place_at;
+pub use terminals::{Terminals, terminals_of};
+pub use variables::{Form, Variable};

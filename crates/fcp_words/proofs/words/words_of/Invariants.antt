@@ -1,9 +1,0 @@
-use Rattle.std.proofs.Common.{length}
-use Rattle.fcp_words.proofs.Keeping.{Kept}
-use Rattle.fcp_words.proofs.words.words_of.Given as goal
-
-abbrev pub invariant-loop-rest : goal.invariant-loop-rest
-invariant-loop-rest l = Kept l.form l.fn.names l.text l.tokens l.names l.variables l.words l.rest
-
-abbrev pub decreases-loop-rest : goal.decreases-loop-rest
-decreases-loop-rest l = length l.rest

@@ -1,3 +1,0 @@
-pub mod Lexemes
-pub mod MarkWords
-pub mod Numbering
