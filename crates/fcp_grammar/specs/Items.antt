@@ -1,5 +1,5 @@
 -- Not believed, for the machine alone: reading an item, and what one more terminal does.
-use Rattle.std.specs.Prelude.{ℕ, List, [], ◌∷◌, Bool, true, false, ◌&&◌, if◌then◌else◌}
+use Rattle.std.specs.Prelude.{ℕ, List, [], ◌∷◌, Bool, false, ◌&&◌, if◌then◌else◌}
 use Rattle.fcp_model.specs.declared.term.Term.{Term}
 use Rattle.fcp_model.specs.declared.term.Expr.TheVariants as E
 use Rattle.fcp_model.specs.declared.source.Call.TheVariants.{User}

@@ -2,9 +2,7 @@
 use Rattle.std.proofs.Common.{◌≡◌, ℕ, List, [], ap, ◌∙◌, sym, subst, refl}
 use Rattle.std.specs.Prelude.{map, Ok, Err}
 use Rattle.fcp_model.specs.declared.fault.Refused.{Refused}
-use Rattle.fcp_model.specs.declared.fault.Refused.TheVariants as refused
 use Rattle.fcp_model.specs.declared.names.Sym.{Sym}
-use Rattle.fcp_model.specs.declared.source.GoalText.{GoalText}
 use Rattle.fcp_model.specs.declared.source.Item.{Item}
 use Rattle.fcp_model.specs.declared.source.Module.{Module}
 use Rattle.std.specs.declared.option.Option as option
@@ -20,7 +18,7 @@ use Rattle.fcp_terminals.specs.Numbering.{Env, env}
 use Rattle.fcp_reader.specs.declared.reading.Stopped.{Stopped}
 use Rattle.fcp_reader.specs.declared.reading.Stopped.TheVariants as stopped
 use Rattle.fcp_reader.specs.Refusals.{Refuses}
-use Rattle.fcp_reader.specs.Sources.{terminals_of, behind, names_by, IsModule, IsGoal, of_grammar, ReadsModule, ReadsGoal}
+use Rattle.fcp_reader.specs.Sources.{terminals_of, behind, names_by, of_grammar, ReadsModule, ReadsGoal}
 use Rattle.fcp_reader.specs.Texts as terminals
 use Rattle.fcp_reader.specs.Texts.{AreModule, AreGoal}
 use Rattle.fcp_reader.proofs.GoalMachine.{goals}

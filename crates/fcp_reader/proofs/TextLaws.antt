@@ -1,15 +1,13 @@
 -- A text has at most one value and at most one first fault, and not both.
 use Rattle.std.proofs.Common.{◌≡◌, ℕ, List, [], ap, ◌∙◌, sym, subst, refl}
-use Rattle.std.specs.Prelude.{map, Result, Ok, Err}
+use Rattle.std.specs.Prelude.{map, Ok, Err}
 use Rattle.fcp_model.specs.declared.fault.Code.{Code}
 use Rattle.fcp_model.specs.declared.fault.Fault.{Fault}
 use Rattle.fcp_model.specs.declared.source.GoalText.{GoalText}
-use Rattle.fcp_model.specs.declared.source.Item.{Item}
 use Rattle.fcp_model.specs.declared.source.Module.{Module}
 use Rattle.fcp_text.specs.declared.lexer.Token.{Token}
 use Rattle.fcp_text.specs.Bytes.{Text}
 use Rattle.fcp_text.specs.Tokens.{tokens_of}
-use Rattle.fcp_grammar.specs.declared.terminals.Terminal.{Terminal}
 use Rattle.fcp_terminals.specs.declared.variables.Form.{Form}
 use Rattle.fcp_terminals.specs.declared.variables.Form.TheVariants as form
 use Rattle.fcp_terminals.specs.Lexemes.{lexemes, place_at}

@@ -1,5 +1,5 @@
 -- What is said of terminals is said of the tokens that have them.
-use Rattle.std.proofs.Common.{◌≡◌, ◌<◌, ◌≤◌, ◌+◌, List, [], ◌∷◌, ◌++◌, take, length, ℕ, zero, suc, refl, ap, ◌∙◌, sym, subst, Some, Bool, arith, inl, inr, append_assoc}
+use Rattle.std.proofs.Common.{◌≡◌, ◌<◌, ◌≤◌, ◌+◌, List, [], ◌∷◌, ◌++◌, take, length, ℕ, zero, suc, ap, ◌∙◌, sym, Some, Bool, arith, inl, inr, append_assoc}
 use Rattle.std.specs.Prelude.{slice_get, pos, codes}
 use Rattle.std.proofs.lemmas.Option.{slice_get_within}
 use Rattle.fcp_model.specs.NameList.{number_of}
@@ -8,20 +8,19 @@ use Rattle.fcp_model.specs.declared.fault.Code.TheVariants as code
 use Rattle.fcp_model.specs.declared.names.Sym.{Sym}
 use Rattle.fcp_grammar.specs.declared.terminals.Terminal.{Terminal}
 use Rattle.fcp_grammar.specs.declared.terminals.Terminal.TheVariants as terminal
-use Rattle.fcp_grammar.specs.Grammar.{Marked, plain}
+use Rattle.fcp_grammar.specs.Grammar.{Marked}
 use Rattle.fcp_grammar.proofs.Complete as G
 use Rattle.fcp_terminals.specs.declared.variables.Form.{Form}
 use Rattle.fcp_terminals.specs.Lexemes.{Lexeme}
 use Rattle.fcp_terminals.specs.Numbering.{Env, terminals_from, env_from}
 use Rattle.fcp_terminals.proofs.Completions as C
-use Rattle.fcp_terminals.proofs.Completions.{HasTokens, IsSteady, steady-terminal, simple-terminals, name-terminals, int-steady, round_open-steady, square_open-steady, slash-steady, round_close-steady, square_close-steady, curly_close-steady, equals-steady, less-steady}
+use Rattle.fcp_terminals.proofs.Completions.{HasTokens, steady-terminal, simple-terminals, name-terminals, int-steady, round_open-steady, square_open-steady, slash-steady, round_close-steady, square_close-steady, curly_close-steady, equals-steady, less-steady}
 use Rattle.fcp_terminals.proofs.Walks.{terminals-append, terminals-take, terminals-length}
 use Rattle.fcp_reader.specs.Faults.{unmarked, Begins, Sound, SoundBefore, FaultAt, IsFirstFault}
-use Rattle.fcp_reader.specs.Texts.{clean}
 use Rattle.fcp_reader.specs.TokenFaults.{Begun, IsSound, AreSoundBefore, HasFaultAt, IsFirst}
-use Rattle.fcp_reader.proofs.Completions.{Completion, simple, string, open_string, Completed, CompletedBehind}
+use Rattle.fcp_reader.proofs.Completions.{Completion, simple, string, open_string, CompletedBehind}
 use Rattle.fcp_reader.proofs.Machines.{Machine}
-use Rattle.fcp_reader.proofs.Verdicts.{completed-before, completed-at, unmarked-clean}
+use Rattle.fcp_reader.proofs.Verdicts.{completed-at, unmarked-clean}
 
 -- ---- a completion is the terminals of some tokens
 

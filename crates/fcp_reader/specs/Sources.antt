@@ -14,7 +14,7 @@ use Rattle.fcp_grammar.specs.Grammar.{Marked}
 use Rattle.fcp_terminals.specs.declared.variables.Form.{Form}
 use Rattle.fcp_terminals.specs.declared.variables.Form.TheVariants as form
 use Rattle.fcp_terminals.specs.Lexemes.{lexemes, place_at}
-use Rattle.fcp_terminals.specs.Numbering.{Env, env, terminals_from, env_from, Grows}
+use Rattle.fcp_terminals.specs.Numbering.{Env, env, terminals_from, env_from}
 use Rattle.fcp_reader.specs.GoalGrammar.{spell_goal_text}
 use Rattle.fcp_reader.specs.ModuleGrammar.{spell_module_text}
 use Rattle.fcp_reader.specs.Texts.{AreModule, AreGoal}

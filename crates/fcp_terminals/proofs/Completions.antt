@@ -1,7 +1,7 @@
 -- Terminals that some tokens have, whatever is numbered so far: with these a text can be completed.
 use Rattle.std.proofs.Common.{◌≡◌, ℕ, List, [], ◌∷◌, refl, ap, ◌∙◌, length, false}
 use Rattle.std.specs.Prelude.{ℤ, ◌==◌, if◌then◌else◌}
-use Rattle.fcp_model.specs.declared.term.ArithOp.TheVariants.{Sub, Div}
+use Rattle.fcp_model.specs.declared.term.ArithOp.TheVariants.{Div}
 use Rattle.fcp_model.specs.declared.term.CompareOp.TheVariants.{Less}
 use Rattle.fcp_model.specs.NameList.{noted}
 use Rattle.fcp_grammar.specs.declared.terminals.Terminal.{Terminal}

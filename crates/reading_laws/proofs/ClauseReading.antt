@@ -1,5 +1,5 @@
 -- Clauses are read as they were written.
-use Rattle.std.proofs.Common.{◌≡◌, ℕ, Bool, true, List, [], ◌∷◌, ◌++◌, refl, ap, ◌∙◌, sym, subst, arith}
+use Rattle.std.proofs.Common.{◌≡◌, ℕ, Bool, true, List, [], ◌∷◌, ◌++◌, refl, ap, ◌∙◌, sym, subst, arith, false}
 use Rattle.std.specs.Prelude.{◌&&◌, nat_le, nat_eq, length}
 use Rattle.std.proofs.lemmas.Bool.Decides.{nat_tests}
 use Rattle.fcp_model.specs.declared.names.Sym.{Sym}

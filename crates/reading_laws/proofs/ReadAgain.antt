@@ -29,7 +29,7 @@ use Rattle.reading_laws.specs.Variables.{are_next, terms_variables}
 use Rattle.reading_laws.specs.Readable.{are_small_terms, is_readable, is_readable_clause, are_small_exports}
 use Rattle.reading_laws.specs.TerminalOrder.{terminals_fit}
 use Rattle.reading_laws.specs.Alike.{AreAlike}
-use Rattle.reading_laws.specs.CanonicalReading.{IsShallow, CanonicalTextsAreRead}
+use Rattle.reading_laws.specs.CanonicalReading.{IsShallow, CanonicalTextsAreRead, IsAlike}
 use Rattle.reading_laws.proofs.ReadFew.{read-few}
 use Rattle.reading_laws.proofs.ReadModules.{read-clauses, read-exports, read-writable}
 use Rattle.reading_laws.proofs.SourcedTokens.{both}
