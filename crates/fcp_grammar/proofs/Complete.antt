@@ -43,31 +43,55 @@ unfolding full
 finish-stack m [] t = record { tree = t; close = λ rest. rest; simple = λ k rest x. x; terminals = λ rest. refl }
 finish-stack m (T.in_call s sp a o ts ∷ ps) t =
     let r = finish-stack m ps (call (with_arguments s sp a o ts t)) in
-    record { tree = r.tree; close = λ rest. plain terminal.RoundClose ∷ r.close rest;
-    simple = λ k rest x. round (r.close rest) (r.simple k rest x); terminals = r.terminals }
+    record {
+      tree = r.tree;
+      close = λ rest. plain terminal.RoundClose ∷ r.close rest;
+      simple = λ k rest x. round (r.close rest) (r.simple k rest x);
+      terminals = r.terminals;
+    }
 finish-stack m (T.in_list a ts ∷ ps) t =
     let r = finish-stack m ps (list a ts t) in
-    record { tree = r.tree; close = λ rest. plain terminal.SquareClose ∷ r.close rest;
-    simple = λ k rest x. square (r.close rest) (r.simple k rest x); terminals = r.terminals }
+    record {
+      tree = r.tree;
+      close = λ rest. plain terminal.SquareClose ∷ r.close rest;
+      simple = λ k rest x. square (r.close rest) (r.simple k rest x);
+      terminals = r.terminals;
+    }
 finish-stack m (T.in_rest a ts u ∷ ps) t =
     let r = finish-stack m ps (list_rest a ts u t) in
-    record { tree = r.tree; close = λ rest. plain terminal.SquareClose ∷ r.close rest;
-    simple = λ k rest x. square (r.close rest) (r.simple k rest x); terminals = r.terminals }
+    record {
+      tree = r.tree;
+      close = λ rest. plain terminal.SquareClose ∷ r.close rest;
+      simple = λ k rest x. square (r.close rest) (r.simple k rest x);
+      terminals = r.terminals;
+    }
 finish-stack m (T.in_braces a ts ∷ ps) t =
     let r = finish-stack m ps (braces a ts t) in
-    record { tree = r.tree; close = λ rest. plain terminal.CurlyClose ∷ r.close rest;
-    simple = λ k rest x. curly (r.close rest) (r.simple k rest x); terminals = r.terminals }
+    record {
+      tree = r.tree;
+      close = λ rest. plain terminal.CurlyClose ∷ r.close rest;
+      simple = λ k rest x. curly (r.close rest) (r.simple k rest x);
+      terminals = r.terminals;
+    }
 
 pub finish-term : (m : Bool) (ps : List Part) (last : Last) → Finished m (so_far m ps last)
 finish-term m ps (after t) = finish-stack m ps t
 finish-term m ps wanted =
     let r = finish-stack m ps (int (pos 0) 0) in
-    record { tree = r.tree; close = λ rest. (terminal.Int (pos 0) 0, full m (frames_of ps)) ∷ r.close rest;
-    simple = λ k rest x. zero (full m (frames_of ps)) (r.close rest) (r.simple k rest x); terminals = r.terminals }
+    record {
+      tree = r.tree;
+      close = λ rest. (terminal.Int (pos 0) 0, full m (frames_of ps)) ∷ r.close rest;
+      simple = λ k rest x. zero (full m (frames_of ps)) (r.close rest) (r.simple k rest x);
+      terminals = r.terminals;
+    }
 finish-term m ps (opened a) =
     let r = finish-stack m ps (nil a) in
-    record { tree = r.tree; close = λ rest. plain terminal.SquareClose ∷ r.close rest;
-    simple = λ k rest x. square (r.close rest) (r.simple k rest x); terminals = r.terminals }
+    record {
+      tree = r.tree;
+      close = λ rest. plain terminal.SquareClose ∷ r.close rest;
+      simple = λ k rest x. square (r.close rest) (r.simple k rest x);
+      terminals = r.terminals;
+    }
 
 pub record FinishedItem (m : Bool) (front : List Marked → List Marked) : Type 0 where
   pub tree : ItemTree
@@ -117,11 +141,19 @@ finish-groups m left (inside k o ∷ gs) l f =
 pub finish-item : (m : Bool) (part : PartItem) → FinishedItem m (item_so_far m part)
 finish-item m (equal_to t sign ps last) =
     let r = finish-term false ps last in
-    record { tree = G.equal t sign r.tree; close = r.close; simple = r.simple;
-    terminals = λ rest. ap (λ ws. spell m t (plain (sign_terminal sign) ∷ ws)) (r.terminals rest) }
+    record {
+      tree = G.equal t sign r.tree;
+      close = r.close;
+      simple = r.simple;
+      terminals = λ rest. ap (λ ws. spell m t (plain (sign_terminal sign) ∷ ws)) (r.terminals rest);
+    }
 finish-item m (summing left gs l ps last) =
     let r = finish-term (mark_at m left gs l) ps last in
     let q = finish-groups m left gs l (leaf r.tree) in
-    record { tree = q.tree; close = λ rest. r.close (q.close rest); simple = λ k rest x. r.simple k (q.close rest) (q.simple k rest x);
-        terminals = λ rest. ap (terminals_before m left gs l) (r.terminals (q.close rest)) ∙ q.terminals rest }
+    record {
+      tree = q.tree;
+      close = λ rest. r.close (q.close rest);
+      simple = λ k rest x. r.simple k (q.close rest) (q.simple k rest x);
+      terminals = λ rest. ap (terminals_before m left gs l) (r.terminals (q.close rest)) ∙ q.terminals rest;
+    }
 finish-item m (closed left gs l o e) = finish-groups m left gs l (group o e)

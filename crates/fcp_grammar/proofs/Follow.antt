@@ -113,12 +113,12 @@ module _ {S : Type 0} (go : S → Marked → Option S) (outside : Bool) (C : Ter
       let m : large_by false w ≡ false = o in
       let Q : Bool → Type 0 = λ b. Runs go (C (at (frame ∷ stack) (phase_of t))) ((w, b) ∷ rest) (C y) rest in
       subst Q (large-behind t outside (frame ∷ stack) w p ∙ o)
-          (go_on (at (frame ∷ stack) (phase_of t)) y w rest (step-in_frame t frame stack w p ∙ e))
+      (go_on (at (frame ∷ stack) (phase_of t)) y w rest (step-in_frame t frame stack w p ∙ e))
 
   opened-same : (a : ℕ) (stack : List Frame) (rest : List Marked) (y : TermAt) (w : Terminal) → step_by stack (P.Opened a) w ≡ Read y
       → step_by (F.List a [] ∷ stack) P.Want w ≡ Read y
       → Runs go (C (at stack (P.Opened a))) ((w, large_by false w) ∷ rest) (C (at (F.List a [] ∷ stack) P.Want))
-          ((w, large_by false w) ∷ rest)
+      ((w, large_by false w) ∷ rest)
   unfolding full is_large
   opened-same a stack rest y w e d =
       record { same = (go_on (at stack (P.Opened a)) y w rest e).same ∙ sym (go_on (at (F.List a [] ∷ stack) P.Want) y w rest d).same }
@@ -138,7 +138,7 @@ module _ {S : Type 0} (go : S → Marked → Option S) (outside : Bool) (C : Ter
 
   opened-trees : (a : ℕ) (ts : Trees) (t : Tree) (stack : List Frame) (rest : List Marked)
       → Runs go (C (at stack (P.Opened a))) (spells false ts (spell false t rest)) (C (at (F.List a [] ∷ stack) P.Want))
-          (spells false ts (spell false t rest))
+      (spells false ts (spell false t rest))
   opened-trees a none t stack rest = opened-tree a t stack rest
   opened-trees a (and ts u) t stack rest = opened-trees a ts u stack _
 
@@ -163,7 +163,7 @@ module _ {S : Type 0} (go : S → Marked → Option S) (outside : Bool) (C : Ter
         ⟫ follow-call a s ts stack _
         ⟫ follow-tree t (F.Call a s (values ts) ∷ stack) _
         ⟫ go_behind t (F.Call a s (values ts)) stack
-            (at stack (phase_of (call (with_arguments s sp a o ts t)))) terminal.RoundClose rest tt refl refl
+        (at stack (phase_of (call (with_arguments s sp a o ts t)))) terminal.RoundClose rest tt refl refl
     follow-tree (braces a ts t) stack rest =
         go_on (at stack P.Want) (at (F.Braces a [] ∷ stack) P.Want) (terminal.CurlyOpen a) _ refl
         ⟫ follow-braces a ts stack _
@@ -183,7 +183,7 @@ module _ {S : Type 0} (go : S → Marked → Option S) (outside : Bool) (C : Ter
         ⟫ go_behind t (F.List a (values ts)) stack (at (F.Rest a (values ts ++ value t ∷ []) ∷ stack) P.Want) terminal.Bar _ tt refl refl
         ⟫ follow-tree u (F.Rest a (values ts ++ value t ∷ []) ∷ stack) _
         ⟫ go_behind u (F.Rest a (values ts ++ value t ∷ [])) stack
-            (at stack (phase_of (list_rest a ts t u))) terminal.SquareClose rest tt refl refl
+        (at stack (phase_of (list_rest a ts t u))) terminal.SquareClose rest tt refl refl
 
     follow-call : (a : ℕ) (s : Sym) (ts : Trees) (stack : List Frame) (rest : List Marked)
         → Runs go (C (at (F.Call a s [] ∷ stack) P.Want)) (spells true ts rest) (C (at (F.Call a s (values ts) ∷ stack) P.Want)) rest

@@ -103,9 +103,11 @@ either false x y h = refl
 pub operator-suits : (a : ℕ) (left : LeftSide) (groups : List Level) (w : Terminal) → IsOperator w → Suits a left groups w
 unfolding behind_whole
 operator-suits a left groups w h =
-    record { plain = operator-plain w h;
-    operand = λ l n phase. either (is_fresh (sums_of a left groups l n)) (behind_first (sums_of a left groups l n) phase w)
-    (behind_leaf (sums_of a left groups l n) phase w) (first-operator (sums_of a left groups l n) phase w h) }
+    record {
+      plain = operator-plain w h;
+      operand = λ l n phase. either (is_fresh (sums_of a left groups l n)) (behind_first (sums_of a left groups l n) phase w)
+          (behind_leaf (sums_of a left groups l n) phase w) (first-operator (sums_of a left groups l n) phase w h);
+    }
 
 product-operator : (sign : ProductSign) → IsOperator (product_terminal sign)
 product-operator (mul b) = tt
@@ -135,7 +137,7 @@ step-after_factor m a left groups l n (group o e) w h = refl
 same-product : (a : ℕ) (left : LeftSide) (groups : List Level) (l : LeftOperand) (n : ℕ) (p : Product) (sign : ProductSign) (f : Factor)
     (w : Terminal)
     → behind_operand (sums_of a left groups (level l (Operator (product_value p) (product_op sign))) n) (factor_value f) w
-        ≡ behind_operand (sums_of a left groups (level l Nothing) n) (product_value (times p sign f)) w
+    ≡ behind_operand (sums_of a left groups (level l Nothing) n) (product_value (times p sign f)) w
 unfolding behind_operand
 same-product a left groups l n p sign f (terminal.Operator Add b) = refl
 same-product a left groups l n p sign f (terminal.Operator Sub b) = refl
@@ -146,7 +148,7 @@ same-product a left groups l n p sign f _ = refl
 pub step-after_product : (m : Bool) (a : ℕ) (left : LeftSide) (groups : List Level) (l : LeftOperand) (n : ℕ) (p : Product) (w : Terminal)
     → Suits a left groups w
     → step_side m (after_product a left groups l n p) w
-        ≡ behind_operand (sums_of a left groups (level l Nothing) (product_ops n p)) (product_value p) w
+    ≡ behind_operand (sums_of a left groups (level l Nothing) (product_ops n p)) (product_value p) w
 step-after_product m a left groups l n (one f) w h = step-after_factor m a left groups (level l Nothing) n f w h
 step-after_product m a left groups l n (times p sign f) w h =
     step-after_factor m a left groups (level l (Operator (product_value p) (product_op sign))) (more (product_ops n p)) f w h
@@ -166,7 +168,7 @@ IsSumTerminal _ = ⊥
 -- a sum of two is an operand as one is
 same-sum : (a : ℕ) (left : LeftSide) (groups : List Level) (n : ℕ) (e : Sum) (sign : SumSign) (p : Product) (w : Terminal) → IsSumTerminal w
     → behind_operand (sums_of a left groups (level (Operator (sum_value e) (sum_op sign)) Nothing) n) (product_value p) w
-        ≡ behind_operand (sums_of a left groups nothing n) (sum_value (plus e sign p)) w
+    ≡ behind_operand (sums_of a left groups nothing n) (sum_value (plus e sign p)) w
 unfolding behind_operand
 same-sum a left groups n e sign p (terminal.Operator Add b) h = refl
 same-sum a left groups n e sign p (terminal.Operator Sub b) h = refl
@@ -193,7 +195,7 @@ step-after_sum m a left groups n (plus e sign p) w s h =
 
 behind-times : (a : ℕ) (left : LeftSide) (groups : List Level) (l : LeftOperand) (n : ℕ) (e : Expr) (sign : ProductSign)
     → behind_operand (sums_of a left groups (level l Nothing) n) e (product_terminal sign)
-        ≡ Goes (S.Sum (sums_of a left groups (level l (Operator e (product_op sign))) (more n)) start) (over_operators n)
+    ≡ Goes (S.Sum (sums_of a left groups (level l (Operator e (product_op sign))) (more n)) start) (over_operators n)
 unfolding behind_operand
 behind-times a left groups l n e (mul b) = refl
 behind-times a left groups l n e (div b) = refl
@@ -201,7 +203,7 @@ behind-times a left groups l n e (rem s b) = refl
 
 behind-plus : (a : ℕ) (left : LeftSide) (groups : List Level) (n : ℕ) (e : Expr) (sign : SumSign)
     → behind_operand (sums_of a left groups nothing n) e (sum_terminal sign)
-        ≡ Goes (S.Sum (sums_of a left groups (level (Operator e (sum_op sign)) Nothing) (more n)) start) (over_operators n)
+    ≡ Goes (S.Sum (sums_of a left groups (level (Operator e (sum_op sign)) Nothing) (more n)) start) (over_operators n)
 unfolding behind_operand
 behind-plus a left groups n e (add b) = refl
 behind-plus a left groups n e (sub b) = refl
@@ -230,61 +232,63 @@ module _ {X : Type 0} (go : X → Marked → Option X) (m : Bool) (D : Side → 
   pub in-sum : (s : Sums) → Holds go (is_fresh s && m) (λ x. D (S.Sum s x))
   unfolding step_side step_sum sum_told
   in-sum s =
-      record { moves = λ x y w e. moves (S.Sum s x) (S.Sum s y) w (is_large (is_fresh s && m) x w)
-      (ap (sum_told (is_fresh s && m) s x w) e) }
+      record {
+        moves = λ x y w e. moves (S.Sum s x) (S.Sum s y) w (is_large (is_fresh s && m) x w)
+            (ap (sum_told (is_fresh s && m) s x w) e);
+      }
 
   mutual
     unfolding step_side step_sum sum_told begin step_by full behind_operand
 
     pub follow-factor : (a : ℕ) (left : LeftSide) (groups : List Level) (l : Level) (n : ℕ) (f : Factor) (rest : List Marked)
         → Runs go (D (S.Sum (sums_of a left groups l n) start)) (spell_factor (is_fresh (sums_of a left groups l n) && m) n f rest)
-            (D (after_factor a left groups l n f)) rest
+        (D (after_factor a left groups l n f)) rest
     follow-factor a left groups l n (leaf t) rest =
         follow-tree go (is_fresh (sums_of a left groups l n) && m) (λ x. D (S.Sum (sums_of a left groups l n) x))
         (in-sum (sums_of a left groups l n)) t [] rest
     follow-factor a left groups l n (group o e) rest =
         go_on (S.Sum (sums_of a left groups l n) start) (S.Sum (sums_of a left (l ∷ groups) nothing n) start)
-            (terminal.RoundOpen o) _ _ refl
+        (terminal.RoundOpen o) _ _ refl
         ⟫ follow-sum a left (l ∷ groups) n e _
         ⟫ go_on (after_sum a left (l ∷ groups) n e) (after_factor a left groups l n (group o e)) terminal.RoundClose false rest
         (step-after_sum m a left (l ∷ groups) n e terminal.RoundClose (operator-suits a left (l ∷ groups) terminal.RoundClose tt) tt)
 
     pub follow-product : (a : ℕ) (left : LeftSide) (groups : List Level) (l : LeftOperand) (n : ℕ) (p : Product) (rest : List Marked)
         → Runs go (D (S.Sum (sums_of a left groups (level l Nothing) n) start))
-            (spell_product (is_fresh (sums_of a left groups (level l Nothing) n) && m) n p rest)
-            (D (after_product a left groups l n p)) rest
+        (spell_product (is_fresh (sums_of a left groups (level l Nothing) n) && m) n p rest)
+        (D (after_product a left groups l n p)) rest
     follow-product a left groups l n (one f) rest = follow-factor a left groups (level l Nothing) n f rest
     follow-product a left groups l n (times p sign f) rest =
         let l' : Level = level l (Operator (product_value p) (product_op sign)) in
         let n' : ℕ = more (product_ops n p) in
         let fr : is_fresh (sums_of a left groups l' n') ≡ false =
-            not_fresh a left groups l' n' (not_fresh_product l (product_value p) (product_op sign)) in
+        not_fresh a left groups l' n' (not_fresh_product l (product_value p) (product_op sign)) in
         let Q : Bool → Type 0 =
-            λ b. Runs go (D (S.Sum (sums_of a left groups l' n') start)) (spell_factor (b && m) n' f rest)
-            (D (after_factor a left groups l' n' f)) rest in
+        λ b. Runs go (D (S.Sum (sums_of a left groups l' n') start)) (spell_factor (b && m) n' f rest)
+        (D (after_factor a left groups l' n' f)) rest in
         follow-product a left groups l n p _
         ⟫ go_on (after_product a left groups l n p) (S.Sum (sums_of a left groups l' n') start) (product_terminal sign)
-            (over_operators (product_ops n p)) _
+        (over_operators (product_ops n p)) _
         (step-after_product m a left groups l n p (product_terminal sign)
-            (operator-suits a left groups (product_terminal sign) (product-operator sign))
+        (operator-suits a left groups (product_terminal sign) (product-operator sign))
         ∙ behind-times a left groups l (product_ops n p) (product_value p) sign)
         ⟫ subst Q fr (follow-factor a left groups l' n' f rest)
 
     pub follow-sum : (a : ℕ) (left : LeftSide) (groups : List Level) (n : ℕ) (e : Sum) (rest : List Marked)
         → Runs go (D (S.Sum (sums_of a left groups nothing n) start)) (spell_sum (is_fresh (sums_of a left groups nothing n) && m) n e rest)
-            (D (after_sum a left groups n e)) rest
+        (D (after_sum a left groups n e)) rest
     follow-sum a left groups n (only p) rest = follow-product a left groups Nothing n p rest
     follow-sum a left groups n (plus e sign p) rest =
         let l' : LeftOperand = Operator (sum_value e) (sum_op sign) in
         let n' : ℕ = more (sum_ops n e) in
         let fr : is_fresh (sums_of a left groups (level l' Nothing) n') ≡ false = not_fresh a left groups (level l' Nothing) n' refl in
         let Q : Bool → Type 0 =
-            λ b. Runs go (D (S.Sum (sums_of a left groups (level l' Nothing) n') start)) (spell_product (b && m) n' p rest)
-            (D (after_product a left groups l' n' p)) rest in
+        λ b. Runs go (D (S.Sum (sums_of a left groups (level l' Nothing) n') start)) (spell_product (b && m) n' p rest)
+        (D (after_product a left groups l' n' p)) rest in
         follow-sum a left groups n e _
         ⟫ go_on (after_sum a left groups n e) (S.Sum (sums_of a left groups (level l' Nothing) n') start) (sum_terminal sign)
-            (over_operators (sum_ops n e)) _
+        (over_operators (sum_ops n e)) _
         (step-after_sum m a left groups n e (sum_terminal sign) (operator-suits a left groups (sum_terminal sign) (sum-operator sign))
-            (sum-is-sum_terminal sign)
+        (sum-is-sum_terminal sign)
         ∙ behind-plus a left groups (sum_ops n e) (sum_value e) sign)
         ⟫ subst Q fr (follow-product a left groups l' n' p rest)

@@ -140,8 +140,10 @@ module _ {X : Type 0} (go : X → Marked → Option X) (m : Bool) (D : Side → 
       → Runs go (D S.Start) ((w, b) ∷ rest) (D (S.Sum (fresh_at (place w)) start)) ((w, b) ∷ rest)
   unfolding step_side
   first-terminal y w b rest e =
-      record { same = (go_on go m D moves S.Start y w b rest e).same
-      ∙ sym (go_on go m D moves (S.Sum (fresh_at (place w)) start) y w b rest e).same }
+      record {
+        same = (go_on go m D moves S.Start y w b rest e).same
+            ∙ sym (go_on go m D moves (S.Sum (fresh_at (place w)) start) y w b rest e).same;
+      }
 
   first-tree : (t : Tree) (rest : List Marked)
       → Runs go (D S.Start) (spell m t rest) (D (S.Sum (fresh_at (first_of t)) start)) (spell m t rest)
@@ -200,13 +202,13 @@ module _ {X : Type 0} (go : X → Marked → Option X) (m : Bool) (D : Side → 
   follow-item (G.assigned t e) rest =
       in-fresh t _
       ⟫ behind-fresh t (S.Sum (sums_of (first_of t) (L.Assigned (value t)) [] nothing 0) start) terminal.Assign _ tt
-          (assign-whole (first_of t) t)
+      (assign-whole (first_of t) t)
       ⟫ follow-sum go m D moves (first_of t) (L.Assigned (value t)) [] 0 e rest
   follow-item (G.compared a op b) rest =
       first-in-sum a 0 _
       ⟫ follow-sum go m D moves (first_sum a) L.Nothing [] 0 a _
       ⟫ go_on go m D moves (after_sum (first_sum a) L.Nothing [] 0 a)
-          (S.Sum (sums_of (first_sum a) (L.Compared (sum_value a) op) [] nothing (sum_ops 0 a)) start) (terminal.Compare op) false _
+      (S.Sum (sums_of (first_sum a) (L.Compared (sum_value a) op) [] nothing (sum_ops 0 a)) start) (terminal.Compare op) false _
       (step-after_sum m (first_sum a) L.Nothing [] 0 a (terminal.Compare op)
-          (operator-suits (first_sum a) L.Nothing [] (terminal.Compare op) tt) tt)
+      (operator-suits (first_sum a) L.Nothing [] (terminal.Compare op) tt) tt)
       ⟫ follow-sum go m D moves (first_sum a) (L.Compared (sum_value a) op) [] (sum_ops 0 a) b rest

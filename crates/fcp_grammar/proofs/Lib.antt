@@ -5,4 +5,5 @@ pub mod FollowItems
 pub mod Partial
 pub mod PartialExpressions
 pub mod PartialItems
+pub mod PartialSteps
 pub mod Complete

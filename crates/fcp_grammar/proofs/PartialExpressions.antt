@@ -146,14 +146,14 @@ mark-false : (m : Bool) (left : LeftPart) (gs : List Group) (s : SumPart) (p : P
     → both_nothing (sum_left s) (product_left p) ≡ false
     → terminals_level (mark_at m left gs bare) n (pending s p) (spell_factor false (ops_level n (pending s p)) f rest)
     ≡ terminals_level (mark_at m left gs bare) n (pending s p)
-        (spell_factor (mark_at m left gs (pending s p)) (ops_level n (pending s p)) f rest)
+    (spell_factor (mark_at m left gs (pending s p)) (ops_level n (pending s p)) f rest)
 mark-false m left gs s p n f rest h =
     ap (λ b. terminals_level (mark_at m left gs bare) n (pending s p) (spell_factor (b && m) (ops_level n (pending s p)) f rest))
-        (sym (not_fresh 0 (left_of left) (levels_of gs) (level_of (pending s p)) 0 h))
+    (sym (not_fresh 0 (left_of left) (levels_of gs) (level_of (pending s p)) 0 h))
 
 pub whole-terminals : (m : Bool) (left : LeftPart) (gs : List Group) (l : Pending) (n : ℕ) (f : Factor) (rest : List Marked)
     → spell_sum (mark_at m left gs bare) n (whole_tree l f) rest
-        ≡ terminals_level (mark_at m left gs bare) n l (spell_factor (mark_at m left gs l) (ops_level n l) f rest)
+    ≡ terminals_level (mark_at m left gs bare) n l (spell_factor (mark_at m left gs l) (ops_level n l) f rest)
 whole-terminals m left gs (pending no_sum no_product) n f rest = refl
 whole-terminals m left gs (pending no_sum (product_times p sign)) n f rest =
     mark-false m left gs no_sum (product_times p sign) n f rest refl
@@ -169,8 +169,8 @@ pub timed-terminals : (m : Bool) (left : LeftPart) (gs : List Group) (l : Pendin
     (rest : List Marked)
     → terminals_level (mark_at m left gs bare) n (timed l f sign) rest
     ≡ terminals_level (mark_at m left gs bare) n l
-        (spell_factor (mark_at m left gs l) (ops_level n l) f
-        ((product_terminal sign, over_operators (factor_ops (ops_level n l) f)) ∷ rest))
+    (spell_factor (mark_at m left gs l) (ops_level n l) f
+    ((product_terminal sign, over_operators (factor_ops (ops_level n l) f)) ∷ rest))
 timed-terminals m left gs (pending no_sum no_product) n f sign rest = refl
 timed-terminals m left gs (pending no_sum (product_times p o)) n f sign rest = mark-false m left gs no_sum (product_times p o) n f _ refl
 timed-terminals m left gs (pending (sum_plus e o) no_product) n f sign rest = mark-false m left gs (sum_plus e o) no_product n f _ refl

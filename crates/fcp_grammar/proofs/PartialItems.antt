@@ -8,9 +8,6 @@ use Rattle.fcp_model.specs.declared.source.Call.TheVariants as C
 use Rattle.fcp_grammar.specs.declared.terminals.StringForm.TheVariants as F
 use Rattle.fcp_grammar.specs.declared.terminals.Terminal.{Terminal}
 use Rattle.fcp_grammar.specs.declared.terminals.Terminal.TheVariants as terminal
-use Rattle.fcp_grammar.specs.declared.terms.Phase.{Phase}
-use Rattle.fcp_grammar.specs.declared.terms.Told.{Told}
-use Rattle.fcp_grammar.specs.declared.terms.Told.TheVariants as R
 use Rattle.fcp_grammar.specs.declared.expressions.LeftOperand.TheVariants.{Nothing, Operator}
 use Rattle.fcp_grammar.specs.declared.sides.TermSign.{TermSign}
 use Rattle.fcp_grammar.specs.declared.sides.TermSign.TheVariants.{Equals, Same, NotSame}
@@ -20,20 +17,17 @@ use Rattle.fcp_grammar.specs.declared.sides.Side.{Side}
 use Rattle.fcp_grammar.specs.declared.sides.Side.TheVariants as S
 use Rattle.fcp_grammar.specs.declared.sides.ItemStep.{ItemStep}
 use Rattle.fcp_grammar.specs.declared.sides.ItemStep.TheVariants.{Goes, Ends, Refused}
-use Rattle.fcp_grammar.specs.Values.{is_empty}
-use Rattle.fcp_grammar.specs.Terms.{step, step_by, begin, full, term_of, start, is_large, opens_group, is_wanted}
+use Rattle.fcp_grammar.specs.Terms.{term_of, start}
 use Rattle.fcp_grammar.specs.Expressions.{join, whole, nothing}
-use Rattle.fcp_grammar.specs.Operands.{sums_of, closes, compares, ends, behind_operand, ends_item}
-use Rattle.fcp_grammar.specs.Items.{is_fresh, fresh_at, call_item, equation, equation_item, equate, behind_first, behind_leaf, behind_whole, sum_told, step_sum, step_equal, equal_told, step_side, place}
-use Rattle.fcp_grammar.specs.Items as M
-use Rattle.fcp_grammar.specs.Grammar.{Marked, Tree, int, call, name_alone, with_arguments, variable, read_only, nil, list, list_rest, braces, none, value, values, plain, spell, first_of}
+use Rattle.fcp_grammar.specs.Operands.{sums_of, closes, compares, ends, behind_operand}
+use Rattle.fcp_grammar.specs.Items.{is_fresh, fresh_at, call_item, equation, equate, behind_first, behind_leaf, behind_whole, place}
+use Rattle.fcp_grammar.specs.Grammar.{Marked, Tree, int, call, name_alone, with_arguments, variable, read_only, nil, list, list_rest, braces, value, values, plain, spell, first_of}
 use Rattle.fcp_grammar.specs.ExpressionGrammar.{SumSign, ProductSign, Factor, Product, Sum, add, sub, mul, div, rem, leaf, group, one, times, only, plus, sum_terminal, sum_op, product_terminal, product_op, factor_value, sum_value, more, over_operators, factor_ops, sum_ops, spell_factor, spell_product, spell_sum}
 use Rattle.fcp_grammar.specs.ItemGrammar as G
-use Rattle.fcp_grammar.specs.ItemGrammar.{ItemTree, sign_terminal, sign_call, item_value, spell_item, first_factor, first_product, first_sum}
+use Rattle.fcp_grammar.specs.ItemGrammar.{ItemTree, sign_terminal, item_value, spell_item, first_factor, first_product, first_sum}
 use Rattle.fcp_grammar.proofs.Follow.{phase_of, term_of-phase}
 use Rattle.fcp_grammar.proofs.FollowExpressions.{leaf-value, level}
-use Rattle.fcp_grammar.proofs.Partial as T
-use Rattle.fcp_grammar.proofs.Partial.{Part, Last, wanted, opened, after, at_of, frames_of, so_far}
+use Rattle.fcp_grammar.proofs.Partial.{Part, Last, wanted, at_of, so_far}
 use Rattle.fcp_grammar.proofs.PartialExpressions.{SumPart, ProductPart, Pending, Group, LeftPart, no_sum, sum_plus, no_product, product_times, pending, inside, no_left, left_compared, left_assigned, level_of, levels_of, left_of, bare, ops_level, ops_groups, ops_before, sums, mark_at, terminals_level, terminals_groups, terminals_before, whole_tree, whole-value, whole-ops, whole-terminals, timed, timed-terminals}
 
 -- An item that was begun: behind a sign between two terms, in a term that may be an operand, or behind the `)` of an expression.
@@ -135,7 +129,7 @@ goes-ends m a (left_assigned t) (inside k o ∷ gs) l f w h = tt
 
 goes-compares : (m : Bool) (a : ℕ) (left : LeftPart) (gs : List Group) (l : Pending) (f : Factor) (op : CompareOp)
     → GoesFrom m a (with_operand m left gs l f) (terminal.Compare op)
-        (compares a (left_of left) (levels_of gs) op (whole (level_of l) (factor_value f)) (factor_ops (ops_before left gs l) f))
+    (compares a (left_of left) (levels_of gs) op (whole (level_of l) (factor_value f)) (factor_ops (ops_before left gs l) f))
 goes-compares m a no_left [] l f op =
     record {
       part = summing (left_compared (whole_tree l f) op) [] bare [] wanted;
@@ -151,7 +145,7 @@ goes-compares m a (left_assigned t) (inside k o ∷ gs) l f op = tt
 
 goes-closes : (m : Bool) (a : ℕ) (left : LeftPart) (gs : List Group) (l : Pending) (f : Factor)
     → GoesFrom m a (with_operand m left gs l f) terminal.RoundClose
-        (closes a (left_of left) (levels_of gs) (whole (level_of l) (factor_value f)) (factor_ops (ops_before left gs l) f))
+    (closes a (left_of left) (levels_of gs) (whole (level_of l) (factor_value f)) (factor_ops (ops_before left gs l) f))
 goes-closes m a left [] l f = tt
 goes-closes m a left (inside k o ∷ gs) l f =
     record {
@@ -160,7 +154,7 @@ goes-closes m a left (inside k o ∷ gs) l f =
           ap (λ n. S.Closed (sums_of a (left_of left) (levels_of gs) (level_of k) n) (sum_value (whole_tree l f)))
           (whole-ops l (ops_before left gs k) f)
           ∙ ap (λ v. S.Closed (sums_of a (left_of left) (levels_of gs) (level_of k) (factor_ops (ops_level (ops_before left gs k) l) f)) v)
-              (sym (whole-value l f));
+          (sym (whole-value l f));
       terminals =
           λ rest. ap (λ ws. terminals_groups m left gs
           (terminals_level (mark_at m left gs bare) (ops_groups left gs) k ((terminal.RoundOpen o, mark_at m left gs k) ∷ ws)))
@@ -170,8 +164,8 @@ goes-closes m a left (inside k o ∷ gs) l f =
 timed-side : (a : ℕ) (left : LeftPart) (gs : List Group) (l : Pending) (f : Factor) (sign : ProductSign)
     → side_of a (summing left gs (timed l f sign) [] wanted)
     ≡ S.Sum (sums_of a (left_of left) (levels_of gs)
-        (level ((level_of l).sum) (Operator (join ((level_of l).product) (factor_value f)) (product_op sign)))
-        (more (factor_ops (ops_before left gs l) f))) start
+    (level ((level_of l).sum) (Operator (join ((level_of l).product) (factor_value f)) (product_op sign)))
+    (more (factor_ops (ops_before left gs l) f))) start
 timed-side a left gs (pending no_sum no_product) f sign = refl
 timed-side a left gs (pending no_sum (product_times p o)) f sign = refl
 timed-side a left gs (pending (sum_plus e o) no_product) f sign = refl
@@ -180,8 +174,8 @@ timed-side a left gs (pending (sum_plus e o) (product_times p q)) f sign = refl
 goes-times : (m : Bool) (a : ℕ) (left : LeftPart) (gs : List Group) (l : Pending) (f : Factor) (sign : ProductSign)
     → MovedItem m a (with_operand m left gs l f) (product_terminal sign)
     (S.Sum (sums_of a (left_of left) (levels_of gs)
-        (level ((level_of l).sum) (Operator (join ((level_of l).product) (factor_value f)) (product_op sign)))
-        (more (factor_ops (ops_before left gs l) f))) start)
+    (level ((level_of l).sum) (Operator (join ((level_of l).product) (factor_value f)) (product_op sign)))
+    (more (factor_ops (ops_before left gs l) f))) start)
     (over_operators (factor_ops (ops_before left gs l) f))
 goes-times m a left gs l f sign =
     record {
@@ -193,7 +187,7 @@ goes-times m a left gs l f sign =
 goes-plus : (m : Bool) (a : ℕ) (left : LeftPart) (gs : List Group) (l : Pending) (f : Factor) (sign : SumSign)
     → MovedItem m a (with_operand m left gs l f) (sum_terminal sign)
     (S.Sum (sums_of a (left_of left) (levels_of gs) (level (Operator (whole (level_of l) (factor_value f)) (sum_op sign)) Nothing)
-        (more (factor_ops (ops_before left gs l) f))) start)
+    (more (factor_ops (ops_before left gs l) f))) start)
     (over_operators (factor_ops (ops_before left gs l) f))
 goes-plus m a left gs l f sign =
     record {
@@ -202,20 +196,20 @@ goes-plus m a left gs l f sign =
           ap (λ n. S.Sum (sums_of a (left_of left) (levels_of gs) (level (Operator (sum_value (whole_tree l f)) (sum_op sign)) Nothing)
           (more n)) start) (whole-ops l (ops_groups left gs) f)
           ∙ ap (λ v. S.Sum (sums_of a (left_of left) (levels_of gs) (level (Operator v (sum_op sign)) Nothing)
-              (more (factor_ops (ops_before left gs l) f))) start) (sym (whole-value l f));
+          (more (factor_ops (ops_before left gs l) f))) start) (sym (whole-value l f));
       terminals =
           λ rest. ap (λ n. terminals_groups m left gs
           (spell_sum (mark_at m left gs bare) (ops_groups left gs) (whole_tree l f) ((sum_terminal sign, over_operators n) ∷ rest)))
           (whole-ops l (ops_groups left gs) f)
           ∙ ap (terminals_groups m left gs)
-              (whole-terminals m left gs l (ops_groups left gs) f
-              ((sum_terminal sign, over_operators (factor_ops (ops_before left gs l) f)) ∷ rest));
+          (whole-terminals m left gs l (ops_groups left gs) f
+          ((sum_terminal sign, over_operators (factor_ops (ops_before left gs l) f)) ∷ rest));
     }
 
-goes-operand : (m : Bool) (a : ℕ) (left : LeftPart) (gs : List Group) (l : Pending) (f : Factor) (w : Terminal)
+pub goes-operand : (m : Bool) (a : ℕ) (left : LeftPart) (gs : List Group) (l : Pending) (f : Factor) (w : Terminal)
     → Begins a (with_operand m left gs l f)
     → GoesFrom m a (with_operand m left gs l f) w
-        (behind_operand (sums a left gs l (factor_ops (ops_before left gs l) f)) (factor_value f) w)
+    (behind_operand (sums a left gs l (factor_ops (ops_before left gs l) f)) (factor_value f) w)
 unfolding behind_operand
 goes-operand m a left gs l f (terminal.Operator Add b) h = goes-plus m a left gs l f (add b)
 goes-operand m a left gs l f (terminal.Operator Sub b) h = goes-plus m a left gs l f (sub b)
@@ -239,15 +233,18 @@ leaf-operand : (m : Bool) (a : ℕ) (left : LeftPart) (gs : List Group) (l : Pen
     → GoesFrom m a (term_before m left gs l t) w (behind_leaf (sums a left gs l (ops_before left gs l)) (phase_of t) w)
 leaf-operand m a left gs l t w h =
     subst (λ e. GoesFrom m a (term_before m left gs l t) w (behind_operand (sums a left gs l (ops_before left gs l)) e w))
-        (sym (leaf-value t)) (goes-operand m a left gs l (leaf t) w h)
+    (sym (leaf-value t)) (goes-operand m a left gs l (leaf t) w h)
 
 goes-call : (m : Bool) (a : ℕ) (t : Tree) (w : Terminal) → Begins a (spell m t) → GoesFrom m a (spell m t) w (call_item a (phase_of t))
 unfolding call_item
 goes-call m a (call (name_alone s sp b)) w h =
     record { tree = G.call_item (name_alone s sp b); is = ap (λ x. record { at = x; call = C.User s [] }) (h []); terminals = λ rest. refl }
 goes-call m a (call (with_arguments s sp b o ts t)) w h =
-    record { tree = G.call_item (with_arguments s sp b o ts t);
-    is = ap (λ x. record { at = x; call = C.User s (values ts ++ value t ∷ []) }) (h []); terminals = λ rest. refl }
+    record {
+      tree = G.call_item (with_arguments s sp b o ts t);
+      is = ap (λ x. record { at = x; call = C.User s (values ts ++ value t ∷ []) }) (h []);
+      terminals = λ rest. refl;
+    }
 goes-call m a (int n b) w h = tt
 goes-call m a (variable k b) w h = tt
 goes-call m a (read_only k b) w h = tt
@@ -258,8 +255,11 @@ goes-call m a (braces b ts t) w h = tt
 
 goes-equate : (m : Bool) (a : ℕ) (t : Tree) (sign : TermSign) → GoesFrom m a (spell m t) (sign_terminal sign) (equate a (phase_of t) sign)
 goes-equate m a t sign =
-    record { part = equal_to t sign [] wanted; is = ap (λ v. S.Equal (equation a v sign) start) (sym (term_of-phase t));
-    terminals = λ rest. refl }
+    record {
+      part = equal_to t sign [] wanted;
+      is = ap (λ v. S.Equal (equation a v sign) start) (sym (term_of-phase t));
+      terminals = λ rest. refl;
+    }
 
 goes-waiting : (m : Bool) (a : ℕ) (left : LeftPart) (gs : List Group) (l : Pending) (t : Tree) (w : Terminal)
     → Begins a (term_before m left gs l t)
@@ -269,7 +269,7 @@ unfolding behind_whole
 goes-waiting m a left gs l t w h f =
     let s : Sums = sums a left gs l (ops_before left gs l) in
     subst (λ b. GoesFrom m a (term_before m left gs l t) w (if b then behind_first s (phase_of t) w else behind_leaf s (phase_of t) w))
-        (sym f) (leaf-operand m a left gs l t w h)
+    (sym f) (leaf-operand m a left gs l t w h)
 
 goes-fresh : (m : Bool) (a : ℕ) (t : Tree) (w : Terminal) → Begins a (spell m t)
     → GoesFrom m a (spell m t) w (behind_whole (fresh_at a) (phase_of t) w)
@@ -281,126 +281,17 @@ goes-fresh m a t terminal.Equals h = goes-equate m a t Equals
 goes-fresh m a t terminal.Same h = goes-equate m a t Same
 goes-fresh m a t terminal.NotSame h = goes-equate m a t NotSame
 goes-fresh m a t terminal.Assign h =
-    record { part = summing (left_assigned t) [] bare [] wanted;
-    is = ap (λ v. S.Sum (sums_of a (L.Assigned v) [] nothing 0) start) (sym (term_of-phase t)); terminals = λ rest. refl }
+    record {
+      part = summing (left_assigned t) [] bare [] wanted;
+      is = ap (λ v. S.Sum (sums_of a (L.Assigned v) [] nothing 0) start) (sym (term_of-phase t));
+      terminals = λ rest. refl;
+    }
 goes-fresh m a t w h = leaf-operand m a no_left [] bare t w h
 
-goes-whole : (m : Bool) (a : ℕ) (left : LeftPart) (gs : List Group) (s : SumPart) (p : ProductPart) (t : Tree) (w : Terminal)
+pub goes-whole : (m : Bool) (a : ℕ) (left : LeftPart) (gs : List Group) (s : SumPart) (p : ProductPart) (t : Tree) (w : Terminal)
     → Begins a (term_before m left gs (pending s p) t)
     → GoesFrom m a (term_before m left gs (pending s p) t) w
-        (behind_whole (sums a left gs (pending s p) (ops_before left gs (pending s p))) (phase_of t) w)
+    (behind_whole (sums a left gs (pending s p) (ops_before left gs (pending s p))) (phase_of t) w)
 goes-whole m a no_left [] no_sum no_product t w h = goes-fresh m a t w h
 goes-whole m a left (inside k o ∷ gs) s p t w h = goes-waiting m a left (inside k o ∷ gs) (pending s p) t w h refl
 goes-whole m a left gs s p t w h = goes-waiting m a left gs (pending s p) t w h refl
-
--- ---- one more terminal of a sum
-
-not-wanted : (t : Tree) → is_wanted (phase_of t) ≡ false
-not-wanted (int n b) = refl
-not-wanted (call (name_alone s sp b)) = refl
-not-wanted (call (with_arguments s sp b o ts t)) = refl
-not-wanted (variable k b) = refl
-not-wanted (read_only k b) = refl
-not-wanted (nil b) = refl
-not-wanted (list b ts t) = refl
-not-wanted (list_rest b ts t u) = refl
-not-wanted (braces b ts t) = refl
-
-abbrev opens_turn : Sums → Bool → Bool → ItemStep
-opens_turn s mark b = if b then Goes (S.Sum (M.inside s) start) mark else Refused
-
-goes-opens : (m : Bool) (a : ℕ) (left : LeftPart) (gs : List Group) (l : Pending) (ps : List Part) (last : Last) (w : Terminal)
-    → GoesFrom m a (item_so_far m (summing left gs l ps last)) w
-        (opens_turn (sums a left gs l (ops_before left gs l)) (mark_at m left gs l) (opens_group (at_of ps last) w))
-goes-opens m a left gs l [] wanted (terminal.RoundOpen o) =
-    record { part = summing left (inside l o ∷ gs) bare [] wanted; is = refl; terminals = λ rest. refl }
-goes-opens m a left gs l (p ∷ ps) wanted (terminal.RoundOpen o) = tt
-goes-opens m a left gs l ps (opened b) (terminal.RoundOpen o) = tt
-goes-opens m a left gs l ps (after t) (terminal.RoundOpen o) =
-    subst (λ b. GoesFrom m a (item_so_far m (summing left gs l ps (after t))) (terminal.RoundOpen o)
-        (opens_turn (sums a left gs l (ops_before left gs l)) (mark_at m left gs l) (b && is_empty (frames_of ps)))) (sym (not-wanted t)) tt
-goes-opens m a left gs l ps last w = tt
-
-goes-told : (m : Bool) (a : ℕ) (left : LeftPart) (gs : List Group) (l : Pending) (ps : List Part) (last : Last) (w : Terminal) (told : Told)
-    → Begins a (item_so_far m (summing left gs l ps last))
-    → T.Goes (mark_at m left gs l) ps last w (is_large (mark_at m left gs l) (at_of ps last) w) told
-    → GoesFrom m a (item_so_far m (summing left gs l ps last)) w
-        (sum_told (mark_at m left gs l) (sums a left gs l (ops_before left gs l)) (at_of ps last) w told)
-unfolding sum_told full
-goes-told m a left gs l ps last w (R.Read y) h g =
-    record { part = summing left gs l g.ps' g.last'; is = ap (S.Sum (sums a left gs l (ops_before left gs l))) g.is;
-        terminals = λ rest. ap (terminals_before m left gs l) (g.terminals rest) }
-goes-told m a left gs (pending s p) ps last w (R.Whole phase) h g =
-    let P : List Part → Last → Phase → Type 0 =
-        λ qs x f. Begins a (item_so_far m (summing left gs (pending s p) qs x))
-        → GoesFrom m a (item_so_far m (summing left gs (pending s p) qs x)) w
-        (behind_whole (sums a left gs (pending s p) (ops_before left gs (pending s p))) f w) in
-    subst (λ f. P ps last f) (sym g.is)
-        (subst (λ x. P ps x (phase_of g.tree)) (sym g.ends)
-        (subst (λ qs. P qs (after g.tree) (phase_of g.tree)) (sym g.alone) (goes-whole m a left gs s p g.tree w))) h
-goes-told m a left gs l ps last w R.Refused h g = goes-opens m a left gs l ps last w
-
-goes-sum : (m : Bool) (a : ℕ) (left : LeftPart) (gs : List Group) (l : Pending) (ps : List Part) (last : Last) (w : Terminal)
-    → Begins a (item_so_far m (summing left gs l ps last))
-    → GoesFrom m a (item_so_far m (summing left gs l ps last)) w (step_sum m (sums a left gs l (ops_before left gs l)) (at_of ps last) w)
-unfolding step_sum
-goes-sum m a left gs l ps last w h = goes-told m a left gs l ps last w (step (at_of ps last) w) h (T.goes (mark_at m left gs l) ps last w)
-
--- ---- behind a sign between two terms
-
-equal-end : (m : Bool) (a : ℕ) (t : Tree) (sign : TermSign) (u : Tree) (w : Terminal)
-    → Begins a (item_so_far m (equal_to t sign [] (after u)))
-    → GoesFrom m a (item_so_far m (equal_to t sign [] (after u))) w
-        (if ends_item w then Ends (equation_item (equation a (value t) sign) (term_of (phase_of u))) else Refused)
-unfolding full
-equal-end m a t sign u w h =
-    let e : EndedItem m (item_so_far m (equal_to t sign [] (after u))) (equation_item (equation a (value t) sign) (term_of (phase_of u))) =
-        record {
-      tree = G.equal t sign u;
-      is =
-          ap (λ x. record { at = x; call = sign_call sign (value t) (value u) }) (sym (place-tree m t _) ∙ h [])
-          ∙ ap (λ v. record { at = a; call = sign_call sign (value t) v }) (sym (term_of-phase u));
-      terminals = λ rest. refl;
-    } in
-    elim w as (λ v. GoesFrom m a (item_so_far m (equal_to t sign [] (after u))) v
-        (if ends_item v then Ends (equation_item (equation a (value t) sign) (term_of (phase_of u))) else Refused))
-    [ terminal.Comma ↦ e | terminal.Bar ↦ e | terminal.Dot n ↦ e | _ ↦ tt ]
-
-equal-goes : (m : Bool) (a : ℕ) (t : Tree) (sign : TermSign) (ps : List Part) (last : Last) (w : Terminal) (told : Told)
-    → Begins a (item_so_far m (equal_to t sign ps last))
-    → T.Goes false ps last w (is_large false (at_of ps last) w) told
-    → GoesFrom m a (item_so_far m (equal_to t sign ps last)) w (equal_told (equation a (value t) sign) (at_of ps last) w told)
-equal-goes m a t sign ps last w (R.Read y) h g =
-    record { part = equal_to t sign g.ps' g.last'; is = ap (S.Equal (equation a (value t) sign)) g.is;
-    terminals = λ rest. ap (λ ws. spell m t (plain (sign_terminal sign) ∷ ws)) (g.terminals rest) }
-equal-goes m a t sign ps last w (R.Whole phase) h g =
-    let P : List Part → Last → Phase → Type 0 =
-        λ qs x f. Begins a (item_so_far m (equal_to t sign qs x))
-        → GoesFrom m a (item_so_far m (equal_to t sign qs x)) w
-        (if ends_item w then Ends (equation_item (equation a (value t) sign) (term_of f)) else Refused) in
-    subst (λ f. P ps last f) (sym g.is)
-        (subst (λ x. P ps x (phase_of g.tree)) (sym g.ends)
-        (subst (λ qs. P qs (after g.tree) (phase_of g.tree)) (sym g.alone) (equal-end m a t sign g.tree w))) h
-equal-goes m a t sign ps last w R.Refused h g = tt
-
--- one more terminal of an item
-pub goes-side : (m : Bool) (a : ℕ) (part : PartItem) (w : Terminal) → Begins a (item_so_far m part)
-    → GoesFrom m a (item_so_far m part) w (step_side m (side_of a part) w)
-unfolding step_side step_equal
-goes-side m a (equal_to t sign ps last) w h = equal-goes m a t sign ps last w (step (at_of ps last) w) h (T.goes false ps last w)
-goes-side m a (summing left gs l ps last) w h = goes-sum m a left gs l ps last w h
-goes-side m a (closed left gs l o e) w h = goes-operand m a left gs l (group o e) w h
-
--- the first terminal of an item
-pub goes-start : (m : Bool) (w : Terminal) → GoesFrom m (place w) (λ rest. rest) w (step_side m S.Start w)
-unfolding step_side step_sum sum_told begin step_by full is_large
-goes-start m (terminal.Int n b) = record { part = summing no_left [] bare [] (after (int n b)); is = refl; terminals = λ rest. refl }
-goes-start m (terminal.Str s sp b) =
-    record { part = summing no_left [] bare [] (after (call (name_alone s sp b))); is = refl; terminals = λ rest. refl }
-goes-start m (terminal.Var k b) = record { part = summing no_left [] bare [] (after (variable k b)); is = refl; terminals = λ rest. refl }
-goes-start m (terminal.SquareOpen b) = record { part = summing no_left [] bare [] (opened b); is = refl; terminals = λ rest. refl }
-goes-start m (terminal.CurlyOpen b) =
-    record { part = summing no_left [] bare (T.in_braces b none ∷ []) wanted; is = refl; terminals = λ rest. refl }
-goes-start m (terminal.RoundOpen b) =
-    record { part = summing no_left (inside bare b ∷ []) bare [] wanted; is = refl; terminals = λ rest. refl }
-goes-start m _ = tt

@@ -27,7 +27,7 @@ use Rattle.fcp_reader.proofs.ItemLimits.{show-list}
 
 clause-within : (h : Head) (guard : Option (List Item)) (body : List Item) (k v : ℕ) → k ≡ v → v ≤ 250
     → are_args_within v h.args ≡ true → are_items_within v (or_empty guard) ≡ true → are_items_within v body ≡ true
-        → is_clause_within (clause_of h guard body k) ≡ true
+    → is_clause_within (clause_of h guard body k) ≡ true
 clause-within h guard body k v same few args guards items =
     let fewer : k ≤ 250 = omega arith in
     let args' : are_args_within k h.args ≡ true = subst (λ x. are_args_within x h.args ≡ true) (sym same) args in
@@ -54,13 +54,13 @@ module _ (n v b : ℕ) where
   show-clause (fact h k) rest x =
       let behind : List Marked = plain (terminal.Dot k) ∷ rest in
       let head : (are_args_within v (head_value h).args ≡ true) × Bounded text.Module n v b behind =
-          show-head text.Module n v b h behind x in
+      show-head text.Module n v b h behind x in
       (clause-within (head_value h) None [] k v head.1.0 head.1.1 head.0 refl refl, head.1.2)
   show-clause (rule h is i k) rest x =
       let behind : List Marked = plain (terminal.Dot k) ∷ rest in
       let body : List Item = item_values is ++ item_value i ∷ [] in
       let head : (are_args_within v (head_value h).args ≡ true) × Bounded text.Module n v b (plain terminal.If ∷ spell_list is i behind) =
-          show-head text.Module n v b h (plain terminal.If ∷ spell_list is i behind) x in
+      show-head text.Module n v b h (plain terminal.If ∷ spell_list is i behind) x in
       let items : (are_items_within v body ≡ true) × Bounded text.Module n v b behind = show-list text.Module n v b is i behind head.1.1 in
       (clause-within (head_value h) None body k v items.1.0 items.1.1 head.0 refl items.0, items.1.2)
   show-clause (guarded h gs g is i k) rest x =
@@ -69,10 +69,10 @@ module _ (n v b : ℕ) where
       let guard : List Item = item_values gs ++ item_value g ∷ [] in
       let after : List Marked = plain terminal.Bar ∷ spell_list is i behind in
       let head : (are_args_within v (head_value h).args ≡ true) × Bounded text.Module n v b (plain terminal.If ∷ spell_list gs g after) =
-          show-head text.Module n v b h (plain terminal.If ∷ spell_list gs g after) x in
+      show-head text.Module n v b h (plain terminal.If ∷ spell_list gs g after) x in
       let guards : (are_items_within v guard ≡ true) × Bounded text.Module n v b after = show-list text.Module n v b gs g after head.1.1 in
       let items : (are_items_within v body ≡ true) × Bounded text.Module n v b behind =
-          show-list text.Module n v b is i behind guards.1.1 in
+      show-list text.Module n v b is i behind guards.1.1 in
       (clause-within (head_value h) (Some guard) body k v items.1.0 items.1.1 head.0 guards.0 items.0, items.1.2)
 
   -- ---- attributes
@@ -81,14 +81,14 @@ module _ (n v b : ℕ) where
   behind-specs no_specs rest x = x
   behind-specs (and_spec es (spec s form at d k i)) rest x =
       let r : Bounded text.Module n v b (spell_spec (spec s form at d k i) (plain terminal.Comma ∷ rest)) =
-          behind-specs es (spell_spec (spec s form at d k i) (plain terminal.Comma ∷ rest)) x in
+      behind-specs es (spell_spec (spec s form at d k i) (plain terminal.Comma ∷ rest)) x in
       r.1.1.1.1
 
   behind-listing : (es : Listing) (rest : List Marked) → Bounded text.Module n v b (spell_listing es rest) → Bounded text.Module n v b rest
   behind-listing nothing_listed rest x = x
   behind-listing (listing es (spec s form at d k i)) rest x =
       let r : Bounded text.Module n v b (spell_spec (spec s form at d k i) rest) =
-          behind-specs es (spell_spec (spec s form at d k i) rest) x in
+      behind-specs es (spell_spec (spec s form at d k i) rest) x in
       r.1.1.1
 
   behind-terminal : (next : ℕ → ℕ → Type 0) (w : Terminal) → is_dot w ≡ false → TerminalBounded text.Module next v b w false → next v b
@@ -132,12 +132,12 @@ show-module n v b empty rest x = record { within = refl; bound = v; dots = b; fe
 show-module n v b (and_clause m c) rest x =
     let front : ShownModule n b (module_value m) (spell_clause c rest) = show-module n v b m (spell_clause c rest) x in
     let last : (is_clause_within (clause_value c) ≡ true) × Behind n front.dots rest =
-        show-clause n front.bound front.dots c rest front.behind in
+    show-clause n front.bound front.dots c rest front.behind in
     let behind : Behind n front.dots rest = last.1 in
     let fewer : behind.1 < front.dots = behind.2 in
     let few : length (module_value m).clauses + front.dots ≤ b = front.few in
     let long : length ((module_value m).clauses ++ clause_value c ∷ []) ≡ length (module_value m).clauses + 1 =
-        length-append (module_value m).clauses (clause_value c ∷ []) in
+    length-append (module_value m).clauses (clause_value c ∷ []) in
     let all : length ((module_value m).clauses ++ clause_value c ∷ []) + behind.1 ≤ b = omega arith in
     record {
       within = all-more is_clause_within (module_value m).clauses (clause_value c) front.within last.0;
@@ -153,7 +153,7 @@ show-module n v b (and_attribute m a) rest x =
     let few : length (module_value m).clauses + front.dots ≤ b = front.few in
     let all : length (module_value m).clauses + behind.1 ≤ b = omega arith in
     let same : (with_said (module_value m) (dash_of a) (said_of a)).clauses ≡ (module_value m).clauses =
-        same-clauses (module_value m) (dash_of a) (said_of a) in
+    same-clauses (module_value m) (dash_of a) (said_of a) in
     record {
       within = subst (λ (cs : List Clause). list_all is_clause_within cs ≡ true) (sym same) front.within;
       bound = behind.0;

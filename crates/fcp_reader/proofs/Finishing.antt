@@ -38,8 +38,12 @@ module _ (k : ℕ) (s : Sym) where
   finish-items : (is : ItemTrees) (front : List Marked → List Marked) → FinishedItem (over_items (item_values is)) front
       → FinishedText spell_goal_text k s (λ rest. spell_items is (front rest))
   finish-items is front r =
-      record { tree = bare_goal is r.tree; close = r.close []; completes = simple (r.close []) (r.simple k [] done);
-      terminals = ap (spell_items is) (r.terminals []) }
+      record {
+        tree = bare_goal is r.tree;
+        close = r.close [];
+        completes = simple (r.close []) (r.simple k [] done);
+        terminals = ap (spell_items is) (r.terminals []);
+      }
 
   pub finish-goal : (p : PartGoal) → FinishedText spell_goal_text k s (P.terminals_of p)
   finish-goal (P.starting is) = finish-items is (λ rest. rest) (start-item (over_items (item_values is)))
@@ -122,22 +126,36 @@ module _ (k : ℕ) (s : Sym) where
   finish-body : (m : ModuleTree) (h : CallTree) (g : GuardPart) (is : ItemTrees) (front : List Marked → List Marked)
       → FinishedItem (over_items (item_values is)) front → FinishedModule (λ rest. terminals_body m h g is (front rest))
   finish-body m h no_guard is front r =
-      record { tree = and_clause m (rule h is r.tree k); close = r.close end_terminals;
-      completes = simple (r.close end_terminals) (r.simple k end_terminals dot);
-      terminals = ap (terminals_body m h no_guard is) (r.terminals end_terminals) }
+      record {
+        tree = and_clause m (rule h is r.tree k);
+        close = r.close end_terminals;
+        completes = simple (r.close end_terminals) (r.simple k end_terminals dot);
+        terminals = ap (terminals_body m h no_guard is) (r.terminals end_terminals);
+      }
   finish-body m h (guard_of gs g) is front r =
-      record { tree = and_clause m (guarded h gs g is r.tree k); close = r.close end_terminals;
-      completes = simple (r.close end_terminals) (r.simple k end_terminals dot);
-      terminals = ap (terminals_body m h (guard_of gs g) is) (r.terminals end_terminals) }
+      record {
+        tree = and_clause m (guarded h gs g is r.tree k);
+        close = r.close end_terminals;
+        completes = simple (r.close end_terminals) (r.simple k end_terminals dot);
+        terminals = ap (terminals_body m h (guard_of gs g) is) (r.terminals end_terminals);
+      }
 
   pub finish-module : (m : ModuleTree) (part : PartClause) → FinishedModule (terminals_of m part)
   finish-module m no_clause = record { tree = m; close = []; completes = simple [] done; terminals = refl }
   finish-module m (in_dash p) =
-      let r = finish-attribute p in record { tree = and_attribute m r.tree; close = r.close; completes = r.completes;
-      terminals = ap (spell_module m) r.terminals }
+      let r = finish-attribute p in record {
+        tree = and_attribute m r.tree;
+        close = r.close;
+        completes = r.completes;
+        terminals = ap (spell_module m) r.terminals;
+      }
   finish-module m (head_name x form a) =
-      record { tree = and_clause m (fact (name_alone x form a) k); close = end_terminals; completes = simple end_terminals dot;
-      terminals = refl }
+      record {
+        tree = and_clause m (fact (name_alone x form a) k);
+        close = end_terminals;
+        completes = simple end_terminals dot;
+        terminals = refl;
+      }
   finish-module m (head_args x form a o ts ps last) =
       let r = finish-term (over (values ts)) ps last in
       record {
@@ -147,8 +165,12 @@ module _ (k : ℕ) (s : Sym) where
         terminals = ap (terminals_args m x form a o ts) (r.terminals round_terminals);
       }
   finish-module m (head_called x form a o ts t) =
-      record { tree = and_clause m (fact (with_arguments x form a o ts t) k); close = end_terminals; completes = simple end_terminals dot;
-      terminals = refl }
+      record {
+        tree = and_clause m (fact (with_arguments x form a o ts t) k);
+        close = end_terminals;
+        completes = simple end_terminals dot;
+        terminals = refl;
+      }
   finish-module m (starting h g is) = finish-body m h g is (λ rest. rest) (start-item (over_items (item_values is)))
   finish-module m (in_item h g is a part b) =
       finish-body m h g is (item_so_far (over_items (item_values is)) part) (finish-item (over_items (item_values is)) part)

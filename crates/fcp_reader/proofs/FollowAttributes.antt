@@ -83,7 +83,7 @@ module _ (m : Module) (d : ℕ) where
   follow-listing (listing es e) rest =
       follow-specs es e _
       ⟫ moves (A.List (X.More (spec_values es ++ spec_value e ∷ [])))
-          (A.List (X.Close (spec_values es ++ spec_value e ∷ []))) terminal.SquareClose false rest refl
+      (A.List (X.Close (spec_values es ++ spec_value e ∷ []))) terminal.SquareClose false rest refl
 
   -- ---- any other
 

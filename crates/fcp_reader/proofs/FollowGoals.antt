@@ -49,7 +49,7 @@ follow-goal-text (dotted_goal is i n) =
     (follow-items is _
     ⟫ follow-one (item_values is) i (plain (terminal.Dot n) ∷ [])
     ⟫ go_on step (Items (item_values is) (after_item i)) (Ended (item_values is ++ item_value i ∷ [])) (terminal.Dot n) false []
-        (end-one (item_values is) i (terminal.Dot n) tt)).same
+    (end-one (item_values is) i (terminal.Dot n) tt)).same
 
 -- a goal may end behind its tree
 pub whole-goal : (g : GoalTree) → whole (goal_ends g) ≡ Some (goal_value g)

@@ -44,20 +44,27 @@ module _ (f : Form) (n v b : ℕ) where
       let behind : List Marked = plain (sign_terminal sign) ∷ spell false u rest in
       let left : Shown f n v b m (is_term_within v (value t)) behind = show-tree f n v b m t behind h in
       let right : Shown f n v b false (is_term_within v (value u)) rest =
-          show-tree f n v b false u rest (behind-sign_terminal sign (spell false u rest) left.behind) in
+      show-tree f n v b false u rest (behind-sign_terminal sign (spell false u rest) left.behind) in
       record { small = left.small; within = within-sign v sign (value t) (value u) left.within right.within; behind = right.behind }
   show-item m (assigned t e) rest h =
       let behind : List Marked = plain terminal.Assign ∷ spell_sum false 0 e rest in
       let left : Shown f n v b m (is_term_within v (value t)) behind = show-tree f n v b m t behind h in
       let right : Shown f n v b false (is_expr_within v (sum_value e)) rest = show-sum f n v b false 0 e rest left.behind.1 in
-      record { small = left.small; within = and_from (is_term_within v (value t)) (is_expr_within v (sum_value e)) left.within right.within;
-          behind = right.behind }
+      record {
+        small = left.small;
+        within = and_from (is_term_within v (value t)) (is_expr_within v (sum_value e)) left.within right.within;
+        behind = right.behind;
+      }
   show-item m (compared a op c) rest h =
       let behind : List Marked = plain (terminal.Compare op) ∷ spell_sum false (sum_ops 0 a) c rest in
       let left : Shown f n v b m (is_expr_within v (sum_value a)) behind = show-sum f n v b m 0 a behind h in
       let right : Shown f n v b false (is_expr_within v (sum_value c)) rest = show-sum f n v b false (sum_ops 0 a) c rest left.behind.1 in
-      record { small = left.small; within = and_from (is_expr_within v (sum_value a))
-          (is_expr_within v (sum_value c)) left.within right.within; behind = right.behind }
+      record {
+        small = left.small;
+        within = and_from (is_expr_within v (sum_value a))
+            (is_expr_within v (sum_value c)) left.within right.within;
+        behind = right.behind;
+      }
 
   show-items : (is : ItemTrees) (rest : List Marked) → Bounded f n v b (spell_items is rest)
       → (list_all (is_item_within v) (item_values is) ≡ true) × Bounded f n v b rest
@@ -66,7 +73,7 @@ module _ (f : Form) (n v b : ℕ) where
       let behind : List Marked = spell_item (over_items (item_values is)) i (plain terminal.Comma ∷ rest) in
       let front : (list_all (is_item_within v) (item_values is) ≡ true) × Bounded f n v b behind = show-items is behind h in
       let last : Shown f n v b (over_items (item_values is)) (is_item_within v (item_value i)) (plain terminal.Comma ∷ rest) =
-          show-item (over_items (item_values is)) i (plain terminal.Comma ∷ rest) front.1 in
+      show-item (over_items (item_values is)) i (plain terminal.Comma ∷ rest) front.1 in
       (all-more (is_item_within v) (item_values is) (item_value i) front.0 last.within, last.behind.1)
 
   -- items, of which the last is not one too many
@@ -76,7 +83,7 @@ module _ (f : Form) (n v b : ℕ) where
       let behind : List Marked = spell_item (over_items (item_values is)) i rest in
       let front : (list_all (is_item_within v) (item_values is) ≡ true) × Bounded f n v b behind = show-items is behind h in
       let last : Shown f n v b (over_items (item_values is)) (is_item_within v (item_value i)) rest =
-          show-item (over_items (item_values is)) i rest front.1 in
+      show-item (over_items (item_values is)) i rest front.1 in
       let all : List Item = item_values is ++ item_value i ∷ [] in (
         and_from (nat_le (length all) 256) (list_all (is_item_within v) all)
             (le-leb (length all) 256 (few-more (item_values is) (item_value i) last.small))

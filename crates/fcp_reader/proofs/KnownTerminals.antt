@@ -94,29 +94,47 @@ module _ (n b : ℕ) where
   found-known f vs i at ws l h =
       let first : 1 ≤ i + 1 = omega arith in
       let below : i + 1 ≤ h.bound = omega (arith, h.least) in
-      record { bound = h.bound; dots = h.dots; least = h.least; most = h.most; few = omega (arith, h.few);
-          bounded = (refl, first, λ x. below, h.bounded) }
+      record {
+        bound = h.bound;
+        dots = h.dots;
+        least = h.least;
+        most = h.most;
+        few = omega (arith, h.few);
+        bounded = (refl, first, λ x. below, h.bounded);
+      }
 
   new-known : (f : Form) (e : Env) (ns : List Text) (x : Variable) (at : ℕ) (ws : List Marked) (room : Bool)
       → nat_lt (length e.variables) 250 ≡ room
       → Known f n b (if room then env ns (e.variables ++ x ∷ []) else e).variables ws
-          → Known f n (suc b) e.variables (plain (terminal.Var (length e.variables + 1) at) ∷ ws)
+      → Known f n (suc b) e.variables (plain (terminal.Var (length e.variables + 1) at) ∷ ws)
   new-known f e ns x at ws true s h =
       let long : length (e.variables ++ x ∷ []) ≡ length e.variables + 1 = length-append e.variables (x ∷ []) in
       let first : 1 ≤ length e.variables + 1 = omega arith in
       let below : length e.variables + 1 ≤ h.bound = subst (λ k. k ≤ h.bound) long h.least in
-      record { bound = h.bound; dots = h.dots; least = omega arith; most = h.most; few = omega (arith, h.few);
-          bounded = (refl, first, λ y. below, h.bounded) }
+      record {
+        bound = h.bound;
+        dots = h.dots;
+        least = omega arith;
+        most = h.most;
+        few = omega (arith, h.few);
+        bounded = (refl, first, λ y. below, h.bounded);
+      }
   new-known f e ns x at ws false s h =
       let full : 250 ≤ length e.variables = ltb-false (length e.variables) 250 s in
       let first : 1 ≤ length e.variables + 1 = omega arith in
       let past : length e.variables + 1 ≤ 250 → length e.variables + 1 ≤ h.bound = λ y. absurd (omega arith) in
-      record { bound = h.bound; dots = h.dots; least = h.least; most = h.most; few = omega (arith, h.few);
-          bounded = (refl, first, past, h.bounded) }
+      record {
+        bound = h.bound;
+        dots = h.dots;
+        least = h.least;
+        most = h.most;
+        few = omega (arith, h.few);
+        bounded = (refl, first, past, h.bounded);
+      }
 
   variable-known : (f : Form) (e : Env) (t : Text) (at : ℕ) (ws : List Marked) (o : Option ℕ) → numbering.find e.variables t ≡ o
       → Known f n b (variable_by f e t o).variables ws
-          → Known f n (suc b) e.variables (plain (terminal.Var (number_by e.variables o) at) ∷ ws)
+      → Known f n (suc b) e.variables (plain (terminal.Var (number_by e.variables o) at) ∷ ws)
   variable-known f e t at ws (Some i) q h = found-known f e.variables i at ws (found-within e.variables t i q) h
   variable-known f e t at ws None q h =
       new-known f e (named f e.names t) (record { text = t; name = name_of f e.names t }) at ws (nat_lt (length e.variables) 250) refl h
@@ -127,8 +145,14 @@ module _ (n b : ℕ) where
       → Known f n (suc b) vs (plain (terminal.Dot (length vs)) ∷ ws)
   dot-known Module vs m ws small h =
       let fewer : h.dots < suc h.dots = omega arith in
-      record { bound = length vs; dots = suc h.dots; least = omega arith; most = small; few = omega (arith, h.few);
-          bounded = (refl, small, (h.bound, h.dots, fewer, h.bounded)) }
+      record {
+        bound = length vs;
+        dots = suc h.dots;
+        least = omega arith;
+        most = small;
+        few = omega (arith, h.few);
+        bounded = (refl, small, (h.bound, h.dots, fewer, h.bounded));
+      }
   dot-known Goal vs m ws small h =
       record { bound = h.bound; dots = h.dots; least = h.least; most = h.most; few = omega (arith, h.few); bounded = h.bounded }
 
@@ -194,5 +218,5 @@ terminals-known f e [] small =
     record { bound = length e.variables; dots = 0; least = omega arith; most = small; few = omega arith; bounded = refl }
 terminals-known f e (l ∷ ls) small =
     terminal-known (length (env_from f (env_after f e l) ls).variables) (length ls) f e l.at l.text l.kind
-        (clean (terminals_from f (env_after f e l) ls) []) small
+    (clean (terminals_from f (env_after f e l) ls) []) small
     (terminals-known f (env_after f e l) ls (few-behind f e l.text l.kind small))

@@ -85,22 +85,25 @@ module _ {S T P V : Type 0} (M : Machine S T P V) where
       → Large M.spell us w → ⊥
   unmarked-terminal us w more t e l =
       let e' : M.spell t ≡ clean us [] ++ (plain w ∷ clean more []) =
-          e ∙ clean-split us (w ∷ more) [] ∙ clean-is us (plain w ∷ clean more []) in
+      e ∙ clean-split us (w ∷ more) [] ∙ clean-is us (plain w ∷ clean more []) in
       let f : follow (go M.step) M.beginning (clean us [] ++ (plain w ∷ clean more [])) ≡ Some (M.ends t) =
-          sym (ap (follow (go M.step) M.beginning) e') ∙ M.follows t in
+      sym (ap (follow (go M.step) M.beginning) e') ∙ M.follows t in
       let h : (x : S) × (walk M.step M.beginning (unmarked (clean us [])) ≡ Some x)
-          × (follow (go M.step) x (plain w ∷ clean more []) ≡ Some (M.ends t)) = follow-front M.step M.beginning (M.ends t) (clean us [])
-          (plain w ∷ clean more []) f in
+      × (follow (go M.step) x (plain w ∷ clean more []) ≡ Some (M.ends t)) = follow-front M.step M.beginning (M.ends t) (clean us [])
+      (plain w ∷ clean more []) f in
       let k : (y : S) × (go M.step h.0 (plain w) ≡ Some y) × (follow (go M.step) y (clean more []) ≡ Some (M.ends t)) =
-          then-some (go M.step h.0 (plain w)) (λ y. follow (go M.step) y (clean more [])) (M.ends t) h.2 in
+      then-some (go M.step h.0 (plain w)) (λ y. follow (go M.step) y (clean more [])) (M.ends t) h.2 in
       small M us h.0 k.0 w (sym (ap (walk M.step M.beginning) (unmarked-front us)) ∙ h.1) (step-of (M.step h.0 w) false k.0 k.1) l
 
   no-fault-at : (ws : List Terminal) (v : V) (c : Code) (n : ℕ) (w : Terminal) → Are M.spell M.value ws v → slice_get ws n ≡ Some w
       → FaultAt M.spell c (take n ws) w → ⊥
   no-fault-at ws v code.Unexpected n w a e f =
       let h : (more : List Terminal) × (ws ≡ take n ws ++ w ∷ more) = cut ws n w e in
-      f (record { tree = a.tree; more = h.0;
-          is = ap unmarked a.spelled ∙ unmarked-front ws ∙ h.1 ∙ sym (append_assoc (take n ws) (w ∷ []) h.0) })
+      f (record {
+        tree = a.tree;
+        more = h.0;
+        is = ap unmarked a.spelled ∙ unmarked-front ws ∙ h.1 ∙ sym (append_assoc (take n ws) (w ∷ []) h.0);
+      })
   no-fault-at ws v code.TooDeep n w a e f = a.shallow n w e f.1
   no-fault-at ws v code.TooLarge n w a e f =
       let h : (more : List Terminal) × (ws ≡ take n ws ++ w ∷ more) = cut ws n w e in

@@ -84,9 +84,14 @@ module _ {S T P V : Type 0} (M : Machine S T P V) where
   module _ (terminals : List Terminal) (i : ℕ) (s : S) (d : ℕ) (x : Terminal) (kept : Kept terminals i s d)
       (within : i < length terminals) where
     pub stop-unexpected : M.step s (get_or terminals i x) ≡ None → IsFirstFault M.spell terminals code.Unexpected i
-    stop-unexpected e =
-        (kept.sound, inr (get_or terminals i x, slice_get-get_or terminals i x within,
-        not-begins M (take i terminals) s (get_or terminals i x) kept.reached.walked-is e))
+    stop-unexpected e = (
+      kept.sound,
+      inr (
+        get_or terminals i x,
+        slice_get-get_or terminals i x within,
+        not-begins M (take i terminals) s (get_or terminals i x) kept.reached.walked-is e,
+      ),
+    )
 
     pub stop-fault : (t : S) (b : Bool) (c : Code) → M.step s (get_or terminals i x) ≡ Some (t, b)
         → fault_of d (get_or terminals i x) b ≡ Some c → IsFirstFault M.spell terminals c i
@@ -97,9 +102,11 @@ module _ {S T P V : Type 0} (M : Machine S T P V) where
         elim (fault-is (is_opening w) (nat_le 256 d) b c f) [
           | inl h ↦ subst (λ v. FaultAt M.spell v us w) (sym h.0)
               (begins M us s t w b kept.reached e, (h.1, omega (arith, le-of 256 d h.2, kept.deep)))
-          | inr h ↦ subst (λ v. FaultAt M.spell v us w) (sym h.0)
-              (begins M us s t w b kept.reached e, shallow-by us w d kept.deep h.2,
-              large M us s t w kept.reached (e ∙ ap (λ v. Some (t, v)) h.1))
+          | inr h ↦ subst (λ v. FaultAt M.spell v us w) (sym h.0) (
+            begins M us s t w b kept.reached e,
+            shallow-by us w d kept.deep h.2,
+            large M us s t w kept.reached (e ∙ ap (λ v. Some (t, v)) h.1),
+          )
         ] in
         (kept.sound, inr (w, slice_get-get_or terminals i x within, at))
 
@@ -118,8 +125,11 @@ module _ {S T P V : Type 0} (M : Machine S T P V) where
           sound = below_more (λ k. (v : Terminal) → slice_get terminals k ≡ Some v → Sound M.spell (take k terminals) v) i kept.sound
               (λ v g. let h : v ≡ w = same v w (sym g ∙ slice_get-get_or terminals i x within) in
               subst (Sound M.spell us) (sym h)
-                  (record { begins = begins M us s t w b kept.reached e; shallow = shallow-by us w d kept.deep n.1;
-                  small = small M us s t w kept.reached.walked-is e' }));
+              (record {
+                begins = begins M us s t w b kept.reached e;
+                shallow = shallow-by us w d kept.deep n.1;
+                small = small M us s t w kept.reached.walked-is e';
+              }));
         }
 
     -- a terminal that passes has no mark
@@ -136,7 +146,7 @@ module _ {S T P V : Type 0} (M : Machine S T P V) where
       → M.whole s ≡ Some v → Are M.spell M.value terminals v
   reads-all terminals i s d v kept e p =
       let h : (t : T) × (M.spell t ≡ clean terminals []) × (M.value t ≡ v) =
-          whole-text M terminals s v (reached-all terminals i s d kept e) p in
+      whole-text M terminals s v (reached-all terminals i s d kept e) p in
       record {
         tree = h.0;
         spelled = h.1;

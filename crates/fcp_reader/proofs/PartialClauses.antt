@@ -32,7 +32,8 @@ use Rattle.fcp_reader.specs.ModuleGrammar.{ModuleTree, and_clause, and_attribute
 use Rattle.fcp_grammar.proofs.Follow.{phase_of, term_of-phase}
 use Rattle.fcp_grammar.proofs.Partial as T
 use Rattle.fcp_grammar.proofs.Partial.{Part, Last, wanted, after, at_of, so_far}
-use Rattle.fcp_grammar.proofs.PartialItems.{PartItem, side_of, item_so_far, Begins, GoesFrom, EndedItem, goes-side, goes-start, head_place}
+use Rattle.fcp_grammar.proofs.PartialItems.{PartItem, side_of, item_so_far, Begins, GoesFrom, EndedItem, head_place}
+use Rattle.fcp_grammar.proofs.PartialSteps.{goes-side, goes-start}
 use Rattle.fcp_reader.proofs.PartialAttributes.{PartAttribute, dash_part, part_at, part_dash, part_terminals, GoesAttribute, EndedAttribute, goes-attribute}
 
 pub data GuardPart : Type 0 where
@@ -108,9 +109,13 @@ goes-ended m p w said e =
 goes-turn : (m : ModuleTree) (p : PartAttribute) (w : Terminal) (turn : AttributeStep) → GoesAttribute p w turn
     → GoesState (λ rest. spell_module m (part_terminals p rest)) w (attribute_turn (module_value m) (part_dash p) turn)
 goes-turn m p w (U.Goes at mark) e =
-    record { module_tree = m; part = in_dash e.part;
-        is = ap (λ d. state (module_value m) (Q.Attribute d (part_at e.part))) e.dash
-        ∙ ap (λ x. state (module_value m) (Q.Attribute (part_dash p) x)) e.is; terminals = λ rest. ap (spell_module m) (e.terminals rest) }
+    record {
+      module_tree = m;
+      part = in_dash e.part;
+      is = ap (λ d. state (module_value m) (Q.Attribute d (part_at e.part))) e.dash
+          ∙ ap (λ x. state (module_value m) (Q.Attribute (part_dash p) x)) e.is;
+      terminals = λ rest. ap (spell_module m) (e.terminals rest);
+    }
 goes-turn m p w (U.Ends said) e = goes-ended m p w said e
 goes-turn m p w U.Refused e = tt
 
@@ -127,31 +132,47 @@ goes-tree : (m : ModuleTree) (h : CallTree) (g : GuardPart) (is : ItemTrees) (i 
     (w : Terminal)
     → ((rest : List Marked) → spell_item (over_items (item_values is)) i rest ≡ before rest)
     → GoesState (λ rest. terminals_body m h g is (before rest)) w
-        (behind_item (module_value m) (head_value h) (guard_value g) (item_values is ++ item_value i ∷ []) w)
+    (behind_item (module_value m) (head_value h) (guard_value g) (item_values is ++ item_value i ∷ []) w)
 unfolding behind_item
 goes-tree m h g is i before terminal.Comma e =
-    record { module_tree = m; part = starting h g (and_item is i); is = refl;
-    terminals = λ rest. ap (terminals_body m h g is) (e (plain terminal.Comma ∷ rest)) }
+    record {
+      module_tree = m;
+      part = starting h g (and_item is i);
+      is = refl;
+      terminals = λ rest. ap (terminals_body m h g is) (e (plain terminal.Comma ∷ rest));
+    }
 goes-tree m h no_guard is i before terminal.Bar e =
-    record { module_tree = m; part = starting h (guard_of is i) no_items; is = refl;
-    terminals = λ rest. ap (terminals_body m h no_guard is) (e (plain terminal.Bar ∷ rest)) }
+    record {
+      module_tree = m;
+      part = starting h (guard_of is i) no_items;
+      is = refl;
+      terminals = λ rest. ap (terminals_body m h no_guard is) (e (plain terminal.Bar ∷ rest));
+    }
 goes-tree m h (guard_of gs g) is i before terminal.Bar e = tt
 goes-tree m h no_guard is i before (terminal.Dot n) e =
-    record { module_tree = and_clause m (rule h is i n); part = no_clause; is = refl;
-    terminals = λ rest. ap (terminals_body m h no_guard is) (e (plain (terminal.Dot n) ∷ rest)) }
+    record {
+      module_tree = and_clause m (rule h is i n);
+      part = no_clause;
+      is = refl;
+      terminals = λ rest. ap (terminals_body m h no_guard is) (e (plain (terminal.Dot n) ∷ rest));
+    }
 goes-tree m h (guard_of gs g) is i before (terminal.Dot n) e =
-    record { module_tree = and_clause m (guarded h gs g is i n); part = no_clause; is = refl;
-    terminals = λ rest. ap (terminals_body m h (guard_of gs g) is) (e (plain (terminal.Dot n) ∷ rest)) }
+    record {
+      module_tree = and_clause m (guarded h gs g is i n);
+      part = no_clause;
+      is = refl;
+      terminals = λ rest. ap (terminals_body m h (guard_of gs g) is) (e (plain (terminal.Dot n) ∷ rest));
+    }
 goes-tree m h g is i before _ e = tt
 
 goes-item : (m : ModuleTree) (h : CallTree) (g : GuardPart) (is : ItemTrees) (before : List Marked → List Marked) (item : Item)
     (w : Terminal)
     → EndedItem (over_items (item_values is)) before item
     → GoesState (λ rest. terminals_body m h g is (before rest)) w
-        (behind_item (module_value m) (head_value h) (guard_value g) (item_values is ++ item ∷ []) w)
+    (behind_item (module_value m) (head_value h) (guard_value g) (item_values is ++ item ∷ []) w)
 goes-item m h g is before item w e =
     subst (λ x. GoesState (λ rest. terminals_body m h g is (before rest)) w
-        (behind_item (module_value m) (head_value h) (guard_value g) (item_values is ++ x ∷ []) w)) e.is
+    (behind_item (module_value m) (head_value h) (guard_value g) (item_values is ++ x ∷ []) w)) e.is
     (goes-tree m h g is e.tree before w e.terminals)
 
 goes-body : (m : ModuleTree) (h : CallTree) (g : GuardPart) (is : ItemTrees) (a : ℕ) (before : List Marked → List Marked) (w : Terminal)
@@ -159,11 +180,14 @@ goes-body : (m : ModuleTree) (h : CallTree) (g : GuardPart) (is : ItemTrees) (a 
     → ((mark : Bool) (rest : List Marked) → head_place (before ((w, mark) ∷ rest)) ≡ a)
     → GoesFrom (over_items (item_values is)) a before w turn
     → GoesState (λ rest. terminals_body m h g is (before rest)) w
-        (body_turn (module_value m) (head_value h) (guard_value g) (item_values is) w turn)
+    (body_turn (module_value m) (head_value h) (guard_value g) (item_values is) w turn)
 goes-body m h g is a before w (N.Goes side mark) b e =
-    record { module_tree = m; part = in_item h g is a e.part (λ rest. ap head_place (e.terminals rest) ∙ b mark rest);
-        is = ap (λ x. state (module_value m) (Q.Body (head_value h) (guard_value g) (item_values is) x)) e.is;
-        terminals = λ rest. ap (terminals_body m h g is) (e.terminals rest) }
+    record {
+      module_tree = m;
+      part = in_item h g is a e.part (λ rest. ap head_place (e.terminals rest) ∙ b mark rest);
+      is = ap (λ x. state (module_value m) (Q.Body (head_value h) (guard_value g) (item_values is) x)) e.is;
+      terminals = λ rest. ap (terminals_body m h g is) (e.terminals rest);
+    }
 goes-body m h g is a before w (N.Ends item) b e = goes-item m h g is before item w e
 goes-body m h g is a before w N.Refused b e = tt
 
@@ -191,10 +215,10 @@ goes-args m s form a o ts ps last w (R.Read y) g =
     }
 goes-args m s form a o ts ps last w (R.Whole phase) g =
     let P : List Part → Last → Term → Type 0 =
-        λ qs x v. GoesState (terminals_of m (head_args s form a o ts qs x)) w (behind_arg (module_value m) a s (values ts ++ v ∷ []) w) in
+    λ qs x v. GoesState (terminals_of m (head_args s form a o ts qs x)) w (behind_arg (module_value m) a s (values ts ++ v ∷ []) w) in
     subst (λ f. P ps last (term_of f)) (sym g.is)
-        (subst (λ x. P ps x (term_of (phase_of g.tree))) (sym g.ends)
-        (subst (λ qs. P qs (after g.tree) (term_of (phase_of g.tree))) (sym g.alone)
+    (subst (λ x. P ps x (term_of (phase_of g.tree))) (sym g.ends)
+    (subst (λ qs. P qs (after g.tree) (term_of (phase_of g.tree))) (sym g.alone)
     (subst (λ v. P [] (after g.tree) v) (sym (term_of-phase g.tree)) (goes-arg m s form a o ts g.tree w))))
 goes-args m s form a o ts ps last w R.Refused g = tt
 

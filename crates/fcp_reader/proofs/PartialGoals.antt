@@ -13,7 +13,8 @@ use Rattle.fcp_reader.specs.Goals.{step, turned, behind_item, whole, whole_by}
 use Rattle.fcp_grammar.specs.Grammar.{Marked, plain}
 use Rattle.fcp_grammar.specs.ItemGrammar.{ItemTree, ItemTrees, and_item, item_value, item_values, spell_item, spell_items, spell_list, over_items}
 use Rattle.fcp_reader.specs.GoalGrammar.{bare_goal, dotted_goal, goal_value, spell_goal_text}
-use Rattle.fcp_grammar.proofs.PartialItems.{PartItem, side_of, item_so_far, Begins, GoesFrom, EndedItem, goes-side, goes-start, head_place}
+use Rattle.fcp_grammar.proofs.PartialItems.{PartItem, side_of, item_so_far, Begins, GoesFrom, EndedItem, head_place}
+use Rattle.fcp_grammar.proofs.PartialSteps.{goes-side, goes-start}
 use Rattle.fcp_reader.proofs.Machines.{GoesTo, WholeText}
 
 pub data PartGoal : Type 0 where
@@ -48,15 +49,18 @@ goes-item : (is : ItemTrees) (before : List Marked → List Marked) (item : Item
     → GoesGoal (λ rest. spell_items is (before rest)) w (behind_item (item_values is ++ item ∷ []) w)
 goes-item is before item w e =
     subst (λ x. GoesGoal (λ rest. spell_items is (before rest)) w (behind_item (item_values is ++ x ∷ []) w)) e.is
-        (goes-tree is e.tree before w e.terminals)
+    (goes-tree is e.tree before w e.terminals)
 
 goes-turn : (is : ItemTrees) (a : ℕ) (before : List Marked → List Marked) (w : Terminal) (turn : ItemStep)
     → ((mark : Bool) (rest : List Marked) → head_place (before ((w, mark) ∷ rest)) ≡ a)
     → GoesFrom (over_items (item_values is)) a before w turn
     → GoesGoal (λ rest. spell_items is (before rest)) w (turned (item_values is) w turn)
 goes-turn is a before w (N.Goes side mark) b e =
-    record { part = in_item is a e.part (λ rest. ap head_place (e.terminals rest) ∙ b mark rest); is = ap (Items (item_values is)) e.is;
-        terminals = λ rest. ap (spell_items is) (e.terminals rest) }
+    record {
+      part = in_item is a e.part (λ rest. ap head_place (e.terminals rest) ∙ b mark rest);
+      is = ap (Items (item_values is)) e.is;
+      terminals = λ rest. ap (spell_items is) (e.terminals rest);
+    }
 goes-turn is a before w (N.Ends item) b e = goes-item is before item w e
 goes-turn is a before w N.Refused b e = tt
 
@@ -81,11 +85,14 @@ same-some s t e = cc
 
 whole-turn : (is : ItemTrees) (a : ℕ) (before : List Marked → List Marked) (turn : ItemStep) (v : List Item)
     → GoesFrom (over_items (item_values is)) a before (terminal.Dot 0) turn → whole_by (item_values is) turn ≡ Some v
-        → IsWhole (λ rest. spell_items is (before rest)) v
+    → IsWhole (λ rest. spell_items is (before rest)) v
 whole-turn is a before (N.Goes side mark) v g e = cc
 whole-turn is a before (N.Ends item) v g e =
-    record { tree = bare_goal is g.tree; is = ap (λ x. item_values is ++ x ∷ []) g.is ∙ same-some (item_values is ++ item ∷ []) v e;
-        terminals = ap (spell_items is) (g.terminals []) }
+    record {
+      tree = bare_goal is g.tree;
+      is = ap (λ x. item_values is ++ x ∷ []) g.is ∙ same-some (item_values is ++ item ∷ []) v e;
+      terminals = ap (spell_items is) (g.terminals []);
+    }
 whole-turn is a before N.Refused v g e = cc
 
 -- where the terminals may end they are a goal

@@ -41,14 +41,20 @@ module _ (names : List Text) (z : Text) (ts : List Token) (after : List Text) (v
   module-refused (stopped.Fault c n) r e w h q =
       subst (λ x. ReadsModule names z after (Err x)) (sym q)
       (of_grammar ts n e refl (first-of-tokens modules form.Module (env names []) (lexemes z ts) c n
-          (subst (λ x. terminals.ReadsModule x (Err (stopped.Fault c n))) w h)))
+      (subst (λ x. terminals.ReadsModule x (Err (stopped.Fault c n))) w h)))
 
   pub goal-read : (items : List Item) (ns : List (option.Option Sym)) → tokens_of z ≡ Ok ts → ws ≡ terminals_of form.Goal names z ts
       → behind form.Goal names z ts ≡ env after vs → terminals.ReadsGoal ws (Ok items) → ns ≡ map (λ v. v.name) vs
       → ReadsGoal names z after (Ok (record { items = items; names = ns }))
-  goal-read items ns e w b r v =
-      (record { tokens = ts; cut = e; is = subst (λ x. AreGoal x items) w r;
-          variables = v ∙ sym (ap (λ (x : Env). map (λ v. v.name) x.variables) b) }, names-by form.Goal names z ts after vs e b)
+  goal-read items ns e w b r v = (
+    record {
+      tokens = ts;
+      cut = e;
+      is = subst (λ x. AreGoal x items) w r;
+      variables = v ∙ sym (ap (λ (x : Env). map (λ v. v.name) x.variables) b);
+    },
+    names-by form.Goal names z ts after vs e b,
+  )
 
   pub goal-refused : (s : Stopped) (r : Refused) → tokens_of z ≡ Ok ts → ws ≡ terminals_of form.Goal names z ts
       → terminals.ReadsGoal ws (Err s) → Refuses z ts s r → ReadsGoal names z after (Err r)
@@ -56,4 +62,4 @@ module _ (names : List Text) (z : Text) (ts : List Token) (after : List Text) (v
   goal-refused (stopped.Fault c n) r e w h q =
       subst (λ x. ReadsGoal names z after (Err x)) (sym q)
       (of_grammar ts n e refl (first-of-tokens goals form.Goal (env names []) (lexemes z ts) c n
-          (subst (λ x. terminals.ReadsGoal x (Err (stopped.Fault c n))) w h)))
+      (subst (λ x. terminals.ReadsGoal x (Err (stopped.Fault c n))) w h)))

@@ -69,7 +69,7 @@ pub follow-walk : {S : Type 0} (step : S → Terminal → Option (S × Bool)) (s
 follow-walk step s t [] e = e
 follow-walk {S} step s t (m ∷ ms) e =
     let h : (u : S) × (go step s m ≡ Some u) × (follow (go step) u ms ≡ Some t) =
-        then-some (go step s m) (λ u. follow (go step) u ms) t e in
+    then-some (go step s m) (λ u. follow (go step) u ms) t e in
     ap (λ o. then (next o) (λ u. walk step u (unmarked ms))) (step-of (step s m.0) m.1 h.0 h.1) ∙ follow-walk step h.0 t ms h.2
 
 -- the state behind the first terminals
@@ -79,7 +79,7 @@ pub follow-front : {S : Type 0} (step : S → Terminal → Option (S × Bool)) (
 follow-front step s u [] more e = (s, refl, e)
 follow-front {S} step s u (m ∷ front) more e =
     let h : (x : S) × (go step s m ≡ Some x) × (follow (go step) x (front ++ more) ≡ Some u) =
-        then-some (go step s m) (λ x. follow (go step) x (front ++ more)) u e in
+    then-some (go step s m) (λ x. follow (go step) x (front ++ more)) u e in
     let k : (t : S) × (walk step h.0 (unmarked front) ≡ Some t) × (follow (go step) t more ≡ Some u) =
-        follow-front step h.0 u front more h.2 in
+    follow-front step h.0 u front more h.2 in
     (k.0, ap (λ o. then (next o) (λ x. walk step x (unmarked front))) (step-of (step s m.0) m.1 h.0 h.1) ∙ k.1, k.2)

@@ -49,23 +49,23 @@ module _ (v : ℕ) where
       let fewer : length (map (is_term_within v) ts) ≤ 65 = omega arith in
       fold-Tuple Bool (term_step v) ts
       ∙ and_from (nat_le (length (map (is_term_within v) ts)) 65) (list_all (λ (b : Bool). b) (map (is_term_within v) ts))
-          (le-leb (length (map (is_term_within v) ts)) 65 fewer) (all-map (is_term_within v) ts h)
+      (le-leb (length (map (is_term_within v) ts)) 65 fewer) (all-map (is_term_within v) ts h)
 
   within-listed : (ts : List Term) (rest : Term) → list_all (is_term_within v) ts ≡ true → is_term_within v rest ≡ true
       → is_term_within v (listed ts rest) ≡ true
   within-listed [] rest h e = e
   within-listed (t ∷ ts) rest h e =
       let q : (is_term_within v t ≡ true) × (list_all (is_term_within v) ts ≡ true) =
-          and_parts (is_term_within v t) (list_all (is_term_within v) ts) h in
+      and_parts (is_term_within v t) (list_all (is_term_within v) ts) h in
       fold-Cons Bool (term_step v) t (listed ts rest)
-          ∙ and_from (is_term_within v t) (is_term_within v (listed ts rest)) q.0 (within-listed ts rest q.1 e)
+      ∙ and_from (is_term_within v t) (is_term_within v (listed ts rest)) q.0 (within-listed ts rest q.1 e)
 
   -- arguments, of which the last is not one too many
   pub within-args : (ts : List Term) (t : Term) → over ts ≡ false → list_all (is_term_within v) ts ≡ true → is_term_within v t ≡ true
       → are_args_within v (ts ++ t ∷ []) ≡ true
   within-args ts t o h e =
       and_from (nat_le (length (ts ++ t ∷ [])) 64) (list_all (is_term_within v) (ts ++ t ∷ []))
-          (le-leb (length (ts ++ t ∷ [])) 64 (few-more ts t o)) (all-more (is_term_within v) ts t h e)
+      (le-leb (length (ts ++ t ∷ [])) 64 (few-more ts t o)) (all-more (is_term_within v) ts t h e)
 
   within-braces : (ts : List Term) (t : Term) → over ts ≡ false → list_all (is_term_within v) ts ≡ true → is_term_within v t ≡ true
       → is_term_within v (T.Tuple (ts ++ t ∷ [])) ≡ true
@@ -81,7 +81,7 @@ module _ (v : ℕ) where
       let fewer : suc (length (ts ++ t ∷ [])) ≤ 65 = omega arith in
       within-Tuple (T.Str s ∷ (ts ++ t ∷ [])) fewer
       (and_from (is_term_within v (T.Str s)) (list_all (is_term_within v) (ts ++ t ∷ [])) (fold-Str Bool (term_step v) s)
-          (all-more (is_term_within v) ts t h e))
+      (all-more (is_term_within v) ts t h e))
 
 -- ---- terms
 
@@ -93,25 +93,31 @@ module _ (f : Form) (n v b : ℕ) where
     show-tree m (call (name_alone s form at)) rest h = record { small = h.0; within = fold-Str Bool (term_step v) s; behind = h.1 }
     show-tree m (call (with_arguments s form at o ts t)) rest h =
         let front : (list_all (is_term_within v) (values ts) ≡ true)
-            × Bounded f n v b (spell (over (values ts)) t (plain terminal.RoundClose ∷ rest))
+        × Bounded f n v b (spell (over (values ts)) t (plain terminal.RoundClose ∷ rest))
         = show-trees true ts (spell (over (values ts)) t (plain terminal.RoundClose ∷ rest)) h.1.1 in
         let last : Shown f n v b (over (values ts)) (is_term_within v (value t)) (plain terminal.RoundClose ∷ rest) =
-            show-tree (over (values ts)) t (plain terminal.RoundClose ∷ rest) front.1 in
+        show-tree (over (values ts)) t (plain terminal.RoundClose ∷ rest) front.1 in
         record { small = h.0; within = within-call v s (values ts) (value t) last.small front.0 last.within; behind = last.behind.1 }
     show-tree m (variable k at) rest h =
         let small : (m ≡ false) × (nat_lt 250 k ≡ false) = or_parts m (nat_lt 250 k) h.0 in
-        record { small = small.0; within = fold-Var Bool (term_step v) k ∙ within-Var v k h.1 (h.2 (ltb-false 250 k small.1));
-            behind = h.3 }
+        record {
+          small = small.0;
+          within = fold-Var Bool (term_step v) k ∙ within-Var v k h.1 (h.2 (ltb-false 250 k small.1));
+          behind = h.3;
+        }
     show-tree m (read_only k at) rest h =
         let small : (m ≡ false) × (nat_lt 250 k ≡ false) = or_parts m (nat_lt 250 k) h.0 in
-        record { small = small.0; within = fold-Ro Bool (term_step v) k ∙ within-Var v k h.1 (h.2 (ltb-false 250 k small.1));
-            behind = h.3.1 }
+        record {
+          small = small.0;
+          within = fold-Ro Bool (term_step v) k ∙ within-Var v k h.1 (h.2 (ltb-false 250 k small.1));
+          behind = h.3.1;
+        }
     show-tree m (nil at) rest h = record { small = h.0; within = fold-Nil Bool (term_step v); behind = h.1.1 }
     show-tree m (list at ts t) rest h =
         let front : (list_all (is_term_within v) (values ts) ≡ true) × Bounded f n v b (spell false t (plain terminal.SquareClose ∷ rest))
         = show-trees false ts (spell false t (plain terminal.SquareClose ∷ rest)) h.1 in
         let last : Shown f n v b false (is_term_within v (value t)) (plain terminal.SquareClose ∷ rest) =
-            show-tree false t (plain terminal.SquareClose ∷ rest) front.1 in
+        show-tree false t (plain terminal.SquareClose ∷ rest) front.1 in
         record {
           small = h.0;
           within =
@@ -122,10 +128,10 @@ module _ (f : Form) (n v b : ℕ) where
     show-tree m (list_rest at ts t u) rest h =
         let behind : List Marked = plain terminal.Bar ∷ spell false u (plain terminal.SquareClose ∷ rest) in
         let front : (list_all (is_term_within v) (values ts) ≡ true) × Bounded f n v b (spell false t behind) =
-            show-trees false ts (spell false t behind) h.1 in
+        show-trees false ts (spell false t behind) h.1 in
         let last : Shown f n v b false (is_term_within v (value t)) behind = show-tree false t behind front.1 in
         let end : Shown f n v b false (is_term_within v (value u)) (plain terminal.SquareClose ∷ rest) =
-            show-tree false u (plain terminal.SquareClose ∷ rest) last.behind.1 in
+        show-tree false u (plain terminal.SquareClose ∷ rest) last.behind.1 in
         record {
           small = h.0;
           within =
@@ -135,10 +141,10 @@ module _ (f : Form) (n v b : ℕ) where
         }
     show-tree m (braces at ts t) rest h =
         let front : (list_all (is_term_within v) (values ts) ≡ true)
-            × Bounded f n v b (spell (over (values ts)) t (plain terminal.CurlyClose ∷ rest))
+        × Bounded f n v b (spell (over (values ts)) t (plain terminal.CurlyClose ∷ rest))
         = show-trees true ts (spell (over (values ts)) t (plain terminal.CurlyClose ∷ rest)) h.1 in
         let last : Shown f n v b (over (values ts)) (is_term_within v (value t)) (plain terminal.CurlyClose ∷ rest) =
-            show-tree (over (values ts)) t (plain terminal.CurlyClose ∷ rest) front.1 in
+        show-tree (over (values ts)) t (plain terminal.CurlyClose ∷ rest) front.1 in
         record { small = h.0; within = within-braces v (values ts) (value t) last.small front.0 last.within; behind = last.behind.1 }
 
     pub show-trees : (counted : Bool) (ts : Trees) (rest : List Marked) → Bounded f n v b (spells counted ts rest)
@@ -146,10 +152,10 @@ module _ (f : Form) (n v b : ℕ) where
     show-trees counted none rest h = (refl, h)
     show-trees counted (and ts t) rest h =
         let front : (list_all (is_term_within v) (values ts) ≡ true)
-            × Bounded f n v b (spell (over_if counted ts) t (plain terminal.Comma ∷ rest))
+        × Bounded f n v b (spell (over_if counted ts) t (plain terminal.Comma ∷ rest))
         = show-trees counted ts (spell (over_if counted ts) t (plain terminal.Comma ∷ rest)) h in
         let last : Shown f n v b (over_if counted ts) (is_term_within v (value t)) (plain terminal.Comma ∷ rest) =
-            show-tree (over_if counted ts) t (plain terminal.Comma ∷ rest) front.1 in
+        show-tree (over_if counted ts) t (plain terminal.Comma ∷ rest) front.1 in
         (all-more (is_term_within v) (values ts) (value t) front.0 last.within, last.behind.1)
 
   -- a string with arguments, where these are wanted by themselves
@@ -158,10 +164,10 @@ module _ (f : Form) (n v b : ℕ) where
       → Shown f n v b m (are_args_within v (values ts ++ value t ∷ [])) rest
   show-call m s form at o ts t rest h =
       let front : (list_all (is_term_within v) (values ts) ≡ true)
-          × Bounded f n v b (spell (over (values ts)) t (plain terminal.RoundClose ∷ rest))
+      × Bounded f n v b (spell (over (values ts)) t (plain terminal.RoundClose ∷ rest))
       = show-trees true ts (spell (over (values ts)) t (plain terminal.RoundClose ∷ rest)) h.1.1 in
       let last : Shown f n v b (over (values ts)) (is_term_within v (value t)) (plain terminal.RoundClose ∷ rest) =
-          show-tree (over (values ts)) t (plain terminal.RoundClose ∷ rest) front.1 in
+      show-tree (over (values ts)) t (plain terminal.RoundClose ∷ rest) front.1 in
       record { small = h.0; within = within-args v (values ts) (value t) last.small front.0 last.within; behind = last.behind.1 }
 
   -- ---- expressions
@@ -185,7 +191,7 @@ module _ (f : Form) (n v b : ℕ) where
         record { small = r.small; within = fold-Leaf Bool (expr_step v) (value t) (first_of t) ∙ r.within; behind = r.behind }
     show-factor m k (group o e) rest h =
         let r : Shown f n v b false (is_expr_within v (sum_value e)) (plain terminal.RoundClose ∷ rest) =
-            show-sum false k e (plain terminal.RoundClose ∷ rest) h.1 in
+        show-sum false k e (plain terminal.RoundClose ∷ rest) h.1 in
         record { small = h.0; within = r.within; behind = r.behind.1 }
 
     show-product : (m : Bool) (k : ℕ) (e : Product) (rest : List Marked) → Bounded f n v b (spell_product m k e rest)
@@ -194,11 +200,11 @@ module _ (f : Form) (n v b : ℕ) where
     show-product m k (times p sign e) rest h =
         let right : List Marked = spell_factor false (more (product_ops k p)) e rest in
         let front : Shown f n v b m (is_expr_within v (product_value p))
-            ((product_terminal sign, over_operators (product_ops k p)) ∷ right) = show-product m k p
-            ((product_terminal sign, over_operators (product_ops k p)) ∷ right) h in
+        ((product_terminal sign, over_operators (product_ops k p)) ∷ right) = show-product m k p
+        ((product_terminal sign, over_operators (product_ops k p)) ∷ right) h in
         let last : Shown f n v b false (is_expr_within v (factor_value e)) rest
         = show-factor false (more (product_ops k p)) e rest
-            (behind-product_terminal sign (over_operators (product_ops k p)) right front.behind) in
+        (behind-product_terminal sign (over_operators (product_ops k p)) right front.behind) in
         record {
           small = front.small;
           within = fold-Op Bool (expr_step v) (product_op sign) (product_value p) (factor_value e)
@@ -212,7 +218,7 @@ module _ (f : Form) (n v b : ℕ) where
     show-sum m k (plus e sign p) rest h =
         let right : List Marked = spell_product false (more (sum_ops k e)) p rest in
         let front : Shown f n v b m (is_expr_within v (sum_value e)) ((sum_terminal sign, over_operators (sum_ops k e)) ∷ right) =
-            show-sum m k e ((sum_terminal sign, over_operators (sum_ops k e)) ∷ right) h in
+        show-sum m k e ((sum_terminal sign, over_operators (sum_ops k e)) ∷ right) h in
         let last : Shown f n v b false (is_expr_within v (product_value p)) rest
         = show-product false (more (sum_ops k e)) p rest (behind-sum_terminal sign (over_operators (sum_ops k e)) right front.behind) in
         record {

@@ -36,14 +36,14 @@ pub one-module : (names : List Text) (z : Text) (a b : Module) → IsModule name
 one-module names z a b x y =
     let t : x.tokens ≡ y.tokens = same-tokens z x.tokens y.tokens x.cut y.cut in
     one-text modules (terminals_of form.Module names z y.tokens) a b
-        (subst (λ ts. AreModule (terminals_of form.Module names z ts) a) t x.is) y.is
+    (subst (λ ts. AreModule (terminals_of form.Module names z ts) a) t x.is) y.is
 
 pub one-goal : (names : List Text) (z : Text) (a b : GoalText) → IsGoal names z a → IsGoal names z b → a ≡ b
 one-goal names z a b x y =
     let t : x.tokens ≡ y.tokens = same-tokens z x.tokens y.tokens x.cut y.cut in
     let i : a.items ≡ b.items =
-        one-text goals (terminals_of form.Goal names z y.tokens) a.items b.items
-        (subst (λ ts. AreGoal (terminals_of form.Goal names z ts) a.items) t x.is) y.is in
+    one-text goals (terminals_of form.Goal names z y.tokens) a.items b.items
+    (subst (λ ts. AreGoal (terminals_of form.Goal names z ts) a.items) t x.is) y.is in
     let n : a.names ≡ b.names = x.variables ∙ ap (λ ts. map (λ v. v.name) (behind form.Goal names z ts).variables) t ∙ sym y.variables in
     ap (λ is. record { items = is; names = a.names }) i ∙ ap (λ ns. record { items = b.items; names = ns }) n
 
@@ -61,8 +61,8 @@ module _ {S T P V : Type 0} (M : Machine S T P V) (f : Form) (names : List Text)
   one-first a b (of_grammar ts n e p h) (of_grammar us k g q i) =
       let t : ts ≡ us = same-tokens z ts us e g in
       let o : (a.code ≡ b.code) × (n ≡ k) =
-          one-fault M.spell (terminals_of f names z us) a.code b.code n k (of-terminals ts us a.code n t h)
-          (of-terminals us us b.code k refl i) in
+      one-fault M.spell (terminals_of f names z us) a.code b.code n k (of-terminals ts us a.code n t h)
+      (of-terminals us us b.code k refl i) in
       let w : a.at ≡ b.at = p ∙ ap (λ x. place_at z x n) t ∙ ap (place_at z us) o.1 ∙ sym q in
       ap (λ c. record { code = c; at = a.at }) o.0 ∙ ap (λ x. record { code = b.code; at = x }) w
 

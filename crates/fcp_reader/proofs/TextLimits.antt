@@ -31,10 +31,10 @@ module-limits names z m x =
     let ls : List Lexeme = lexemes z x.tokens in
     let n : ℕ = length (behind form.Module names z x.tokens).variables in
     let k : Known form.Module n (length ls) [] (clean (terminals_of form.Module names z x.tokens) []) =
-        terminals-known form.Module (env names []) ls (omega arith) in
+    terminals-known form.Module (env names []) ls (omega arith) in
     let r : ShownModule n k.dots (module_value x.is.tree) []
     = show-module n k.bound k.dots x.is.tree []
-        (subst (λ (ws : List Marked). Bounded form.Module n k.bound k.dots ws) (sym x.is.spelled) k.bounded) in
+    (subst (λ (ws : List Marked). Bounded form.Module n k.bound k.dots ws) (sym x.is.spelled) k.bounded) in
     let few : length (module_value x.is.tree).clauses + r.dots ≤ k.dots = r.few in
     let fewer : k.dots ≤ length (lexemes z x.tokens) = k.few in
     let same : length (lexemes z x.tokens) ≡ length x.tokens = lexemes-length z x.tokens in
@@ -60,10 +60,10 @@ goal-limits names z g x =
     let ls : List Lexeme = lexemes z x.tokens in
     let vs : List Variable = (behind form.Goal names z x.tokens).variables in
     let k : Known form.Goal (length vs) (length ls) [] (clean (terminals_of form.Goal names z x.tokens) []) =
-        terminals-known form.Goal (env names []) ls (omega arith) in
+    terminals-known form.Goal (env names []) ls (omega arith) in
     let r : (are_items_within k.bound (goal_value x.is.tree) ≡ true) × (k.bound ≡ length vs)
     = show-goal (length vs) k.bound k.dots x.is.tree
-        (subst (λ (ws : List Marked). Bounded form.Goal (length vs) k.bound k.dots ws) (sym x.is.spelled) k.bounded) in
+    (subst (λ (ws : List Marked). Bounded form.Goal (length vs) k.bound k.dots ws) (sym x.is.spelled) k.bounded) in
     let long : length g.names ≡ length vs = ap length x.variables ∙ length-map vs (λ (v : Variable). v.name) in
     goal-within g k.bound k.most (r.1 ∙ sym long) (subst (λ (is : List Item). are_items_within k.bound is ≡ true) x.is.value r.0)
 

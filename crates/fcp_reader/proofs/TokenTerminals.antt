@@ -46,7 +46,7 @@ completion-tokens f e _ (simple ws s) = simple-terminals f e (unmarked ws) (simp
 completion-tokens f e _ (string ws s) = name-terminals f e (codes "a") 0 (unmarked ws) (simple-of (length e.variables) ws s)
 completion-tokens f e _ (open_string ws s) =
     steady-terminal f e (terminal.RoundOpen 0) _ (round_open-steady 0)
-        (name-terminals f e (codes "a") 0 (unmarked ws) (simple-of (length e.variables) ws s))
+    (name-terminals f e (codes "a") 0 (unmarked ws) (simple-of (length e.variables) ws s))
 
 -- one more terminal
 take-get : {A : Type 0} (xs : List A) (n : ℕ) (x : A) → slice_get xs n ≡ Some x → take (n + 1) xs ≡ take n xs ++ x ∷ []
@@ -79,10 +79,10 @@ module _ {S T P V : Type 0} (M : Machine S T P V) (f : Form) (e : Env) (ls : Lis
       let within : n < length ws = slice_get_within ws n w g in
       let d : Env = env_from f e (take (n + 1) ls) in
       let c : (m : Bool) × CompletedBehind M.spell (length d.variables) (name_a d) (take n ws) w m =
-          completed-at M (length d.variables) (name_a d) ws n w (omega arith) s b in
+      completed-at M (length d.variables) (name_a d) ws n w (omega arith) s b in
       begun-by (n + 1) c.1.tree c.1.close c.1.completes
       (ap unmarked c.1.spelled ∙ unmarked-clean (take n ws) ((w, c.0) ∷ c.1.close)
-          ∙ sym (append_assoc (take n ws) (w ∷ []) (unmarked c.1.close)) ∙ ap (λ us. us ++ unmarked c.1.close) (sym (take-get ws n w g)))
+      ∙ sym (append_assoc (take n ws) (w ∷ []) (unmarked c.1.close)) ∙ ap (λ us. us ++ unmarked c.1.close) (sym (take-get ws n w g)))
 
   begins-of : (n : ℕ) (w : Terminal) → slice_get ws n ≡ Some w → Begun M.spell f e (take (n + 1) ls) → Begins M.spell (take n ws ++ w ∷ [])
   begins-of n w g b = record {

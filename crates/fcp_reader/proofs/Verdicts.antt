@@ -56,8 +56,8 @@ module _ {S T P V : Type 0} (M : Machine S T P V) where
       let f : walked ((us ++ w ∷ []) ++ b.more) ≡ Some (M.ends b.tree) = sym (ap walked b.is) ∙ walk-text b.tree in
       let g : walked ((us ++ w ∷ []) ++ b.more) ≡ walked (us ++ (w ∷ b.more)) = ap walked (append_assoc us (w ∷ []) b.more) in
       let h : walked (us ++ (w ∷ b.more)) ≡ None =
-          walk-append M.step M.beginning us (w ∷ b.more) ∙ ap (λ o. then o (λ t. walk M.step t (w ∷ b.more))) e
-          ∙ ap (λ o. then (next o) (λ t. walk M.step t b.more)) n in
+      walk-append M.step M.beginning us (w ∷ b.more) ∙ ap (λ o. then o (λ t. walk M.step t (w ∷ b.more))) e
+      ∙ ap (λ o. then (next o) (λ t. walk M.step t b.more)) n in
       let c : Some (M.ends b.tree) ≡ None = sym f ∙ g ∙ h in
       cc
 
@@ -99,8 +99,12 @@ module _ {S T P V : Type 0} (M : Machine S T P V) where
   completed-behind k x us s t w b r e =
       let m : Moved M.state_of M.terminals_of (M.terminals_of r.part) w t b = moved us s t w b r e in
       let f : FinishedText M.spell k x (M.terminals_of m.part) = M.finish k x m.part in
-      record { tree = f.tree; close = f.close; completes = f.completes;
-          spelled = sym f.terminals ∙ m.terminals f.close ∙ r.terminals ((w, b) ∷ f.close) }
+      record {
+        tree = f.tree;
+        close = f.close;
+        completes = f.completes;
+        spelled = sym f.terminals ∙ m.terminals f.close ∙ r.terminals ((w, b) ∷ f.close);
+      }
 
   unmarked-behind : (us : List Terminal) (w : Terminal) (b : Bool) (more : List Marked)
       → unmarked (clean us ((w, b) ∷ more)) ≡ (us ++ w ∷ []) ++ unmarked more
@@ -115,19 +119,24 @@ module _ {S T P V : Type 0} (M : Machine S T P V) where
   pub large : (us : List Terminal) (s t : S) (w : Terminal) → Reached us s → M.step s w ≡ Some (t, true) → Large M.spell us w
   large us s t w r e =
       let c : CompletedBehind M.spell 0 (record { 0 = 0 }) us w true = completed-behind 0 (record { 0 = 0 }) us s t w true r e in
-      record { tree = c.tree; front = clean us []; more = c.close; is = c.spelled ∙ clean-is us ((w, true) ∷ c.close);
-          terminals = unmarked-front us }
+      record {
+        tree = c.tree;
+        front = clean us [];
+        more = c.close;
+        is = c.spelled ∙ clean-is us ((w, true) ∷ c.close);
+        terminals = unmarked-front us;
+      }
 
   -- a mark is determined by the terminals before it
   pub small : (us : List Terminal) (s t : S) (w : Terminal) → walked us ≡ Some s → M.step s w ≡ Some (t, false) → Large M.spell us w → ⊥
   small us s t w r e l =
       let f : follow (go M.step) M.beginning (l.front ++ (w, true) ∷ l.more) ≡ Some (M.ends l.tree) =
-          sym (ap (follow (go M.step) M.beginning) l.is) ∙ M.follows l.tree in
+      sym (ap (follow (go M.step) M.beginning) l.is) ∙ M.follows l.tree in
       let h : (x : S) × (walked (unmarked l.front) ≡ Some x) × (follow (go M.step) x ((w, true) ∷ l.more) ≡ Some (M.ends l.tree)) =
-          follow-front M.step M.beginning (M.ends l.tree) l.front ((w, true) ∷ l.more) f in
+      follow-front M.step M.beginning (M.ends l.tree) l.front ((w, true) ∷ l.more) f in
       let same : Some h.0 ≡ Some s = sym h.1 ∙ ap walked l.terminals ∙ r in
       let k : (y : S) × (go M.step h.0 (w, true) ≡ Some y) × (follow (go M.step) y l.more ≡ Some (M.ends l.tree)) =
-          then-some (go M.step h.0 (w, true)) (λ y. follow (go M.step) y l.more) (M.ends l.tree) h.2 in
+      then-some (go M.step h.0 (w, true)) (λ y. follow (go M.step) y l.more) (M.ends l.tree) h.2 in
       let g : M.step h.0 w ≡ Some (k.0, true) = step-of (M.step h.0 w) true k.0 k.1 in
       apart t k.0 (sym e ∙ sym (ap (λ x. M.step x w) (same-some h.0 s same)) ∙ g)
 
@@ -151,7 +160,7 @@ module _ {S T P V : Type 0} (M : Machine S T P V) where
   one-value a b e =
       let f : Some (M.ends a) ≡ Some (M.ends b) = sym (walk-text a) ∙ ap walked e ∙ walk-text b in
       let g : Some (M.value a) ≡ Some (M.value b) =
-          sym (M.whole-ends a) ∙ ap M.whole (same-some (M.ends a) (M.ends b) f) ∙ M.whole-ends b in
+      sym (M.whole-ends a) ∙ ap M.whole (same-some (M.ends a) (M.ends b) f) ∙ M.whole-ends b in
       same-some (M.value a) (M.value b) g
 
   -- ---- terminals with no fault before a position
@@ -180,7 +189,7 @@ module _ {S T P V : Type 0} (M : Machine S T P V) where
       let here : Sound M.spell (take n ws) w = sound n (omega arith) w (slice_get-get_or ws n terminal.Other within) in
       let e : suc n ≡ n + 1 = omega arith in
       subst SomeReached (sym (ap (λ j. take j ws) e ∙ take_more ws n terminal.Other within))
-          (reached-sound (take n ws) r.state w r.reached here (M.step r.state w) refl)
+      (reached-sound (take n ws) r.state w r.reached here (M.step r.state w) refl)
 
   -- Terminals up to a first fault can be completed, and so can they with the terminal there, where some text goes on so.
   pub completed-before : (k : ℕ) (x : Sym) (ws : List Terminal) (n : ℕ) → n ≤ length ws → SoundBefore M.spell ws n

@@ -35,9 +35,11 @@ abbrev mark : ℕ → ℕ → Lexeme
 mark m at = record { kind = kind.Mark m; at = at; text = [] }
 
 pub steady-terminal : (f : Form) (e : Env) (w : Terminal) (ws : List Terminal) → IsSteady w → HasTokens f e ws → HasTokens f e (w ∷ ws)
-steady-terminal f e w ws s h =
-    (s.lexeme ∷ h.0, ap (λ v. v ∷ terminals_from f (env_after f e s.lexeme) h.0) (s.is f e)
-        ∙ ap (λ v. w ∷ terminals_from f v h.0) (s.stays f e) ∙ ap (λ v. w ∷ v) h.1)
+steady-terminal f e w ws s h = (
+  s.lexeme ∷ h.0,
+  ap (λ v. v ∷ terminals_from f (env_after f e s.lexeme) h.0) (s.is f e)
+      ∙ ap (λ v. w ∷ terminals_from f v h.0) (s.stays f e) ∙ ap (λ v. w ∷ v) h.1,
+)
 
 dot-terminal : (f : Form) (e : Env) → HasTokens f e (terminal.Dot (length e.variables) ∷ [])
 unfolding mark_terminal
@@ -65,7 +67,7 @@ mark-steady : (m at : ℕ) (w : Terminal) → (m == signs.dot) ≡ false → ((k
 mark-steady m at w other is =
     let s : (f : Form) (e : Env) → env_after f e (mark m at) ≡ e =
     λ f e. elim f as (λ f. env_after f e (mark m at)
-        ≡ e) [ Module ↦ ap (λ b. env e.names (if b then [] else e.variables)) other | Goal ↦ refl ] in
+    ≡ e) [ Module ↦ ap (λ b. env e.names (if b then [] else e.variables)) other | Goal ↦ refl ] in
     record { lexeme = mark m at; is = λ f e. is (length e.variables); stays = s }
 
 module _ (at : ℕ) where

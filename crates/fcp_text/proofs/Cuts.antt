@@ -81,7 +81,7 @@ module _ (bytes : Text) (found : List Token) (s : Bool) (at : ℕ) (kept : Kept 
   pub token_kept : (k : Kind) (n : ℕ) → at < length bytes → piece.Token k n ≡ scan s (take (length bytes - at) (drop at bytes))
       → (1 ≤ n) × (n ≤ length (take (length bytes - at) (drop at bytes)))
       → Kept bytes (found ++ record { kind = k; at = at; len = n } ∷ []) (sign_after (take n (take (length bytes - at) (drop at bytes))) k)
-          (at + n)
+      (at + n)
   unfolding rest
   token_kept k n h e w =
       let r : scan s (drop at bytes) ≡ piece.Token k n = ap (scan s) (sym rest-is) ∙ sym e in
@@ -100,7 +100,7 @@ module _ (bytes : Text) (found : List Token) (s : Bool) (at : ℕ) (kept : Kept 
       → piece.Token k n ≡ scan s (take (length bytes - at) (drop at bytes))
       → (1 ≤ n) × (n ≤ length (take (length bytes - at) (drop at bytes)))
       → more ≡ found ++ record { kind = k; at = at; len = n } ∷ [] → t ≡ sign_after (take n (take (length bytes - at) (drop at bytes))) k
-          → Kept bytes more t (at + n)
+      → Kept bytes more t (at + n)
   token_more k n more t h e w m g =
       subst (λ v. Kept bytes v t (at + n)) (sym m)
       (subst (λ v. Kept bytes (found ++ record { kind = k; at = at; len = n } ∷ []) v (at + n)) (sym g) (token_kept k n h e w))
@@ -119,7 +119,7 @@ module _ (bytes : Text) (found : List Token) (s : Bool) (at : ℕ) (kept : Kept 
       let w : at ≤ length bytes = kept.within in
       let a : at ≡ length bytes = omega arith in
       sym kept.same ∙ ap (λ n. front found (lex_from s n 0 (drop n bytes))) a
-          ∙ ap (λ z. front found (lex_from s (length bytes) 0 z)) (drop-length bytes) ∙ ap Ok (append-nil found)
+      ∙ ap (λ z. front found (lex_from s (length bytes) 0 z)) (drop-length bytes) ∙ ap Ok (append-nil found)
 
 pub none_kept : (bytes : Text) → Kept bytes [] true 0
 none_kept bytes = record { same = front-none (lex_from true 0 0 bytes); within = omega arith }

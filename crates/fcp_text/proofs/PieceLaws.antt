@@ -40,7 +40,7 @@ word_is_ascii (b ∷ z) i =
     let n : ℕ = leading class.Word z in
     let e : 1 + n ≡ suc n = omega arith in
     subst (λ m. get_or (take (cond (is_in class.Word b) m 0) (b ∷ z)) i 0 < 128) (sym e)
-        (one-more (is_in class.Word b) b n i z (word-below b) (word_is_ascii z))
+    (one-more (is_in class.Word b) b n i z (word-below b) (word_is_ascii z))
 
 -- ---- quotes
 
@@ -65,7 +65,7 @@ closing-closes quote at end true (b ∷ z) e = closes-cons quote at b end z (clo
 closing-closes quote at end false (b ∷ z) e =
     by_test (λ o. o ≡ Some end → Closes quote at (b ∷ z) end) (b == 10) None _ (λ h f. absurd (cc))
     (λ h. by_test (λ o. o ≡ Some end → Closes quote at (b ∷ z) end) (b == quote && not (slice_index z 0 == quote)) (Some (at + 1))
-        (closing quote (b == quote) (at + 1) z)
+    (closing quote (b == quote) (at + 1) z)
     (λ g f. closes-here quote at b end z (and-first (b == quote) _ g) f)
     (λ g f. closes-cons quote at b end z (closing-closes quote (at + 1) end (b == quote) z f)))
     e
@@ -85,9 +85,9 @@ mark_in-short : (table : List (Text × ℕ)) (z : Text) → list_all (λ m. nat_
 mark_in-short [] z h = tt
 mark_in-short (m ∷ table) z h =
     by_test (λ o. IsShortened z (option_map (λ m. (m.1, length m.0)) o)) (starts_with nat_eq z m.0) (Some m)
-        (find (λ m. starts_with nat_eq z m.0) table)
+    (find (λ m. starts_with nat_eq z m.0) table)
     (λ e. (above (length m.0) (and-first (nat_lt 0 (length m.0)) _ h), prefix-short m.0 z e))
-        (λ e. mark_in-short table z (and-second (nat_lt 0 (length m.0)) _ h))
+    (λ e. mark_in-short table z (and-second (nat_lt 0 (length m.0)) _ h))
   where
     above : (n : ℕ) → nat_lt 0 n ≡ true → 1 ≤ n
     above n h = grind (arith, nat_tests)
@@ -112,10 +112,10 @@ ascii-digit-first s b z h e = digit-or (is_ascii_digit b) s (b == 45) (is_ascii_
 -- a sign and the digits
 number-len : (s : Bool) (b : ℕ) (z : Text) → begins_number s (b ∷ z) ≡ true
     → (1 ≤ sign_len (b ∷ z) + leading class.Digit (drop (sign_len (b ∷ z)) (b ∷ z)))
-        × (sign_len (b ∷ z) + leading class.Digit (drop (sign_len (b ∷ z)) (b ∷ z)) ≤ length (b ∷ z))
+    × (sign_len (b ∷ z) + leading class.Digit (drop (sign_len (b ∷ z)) (b ∷ z)) ≤ length (b ∷ z))
 number-len s b z h =
     by_test (λ k. (1 ≤ k + leading class.Digit (drop k (b ∷ z))) × (k + leading class.Digit (drop k (b ∷ z)) ≤ length (b ∷ z)))
-        (b == 45) 1 0
+    (b == 45) 1 0
     (λ e. let l : leading class.Digit z ≤ length z = prefix_len-le-length (is_in class.Digit) z in (omega arith, omega arith))
     (λ e. let l : leading class.Digit (b ∷ z) ≤ length (b ∷ z) = prefix_len-le-length (is_in class.Digit) (b ∷ z) in
     let m : 1 ≤ leading class.Digit (b ∷ z) = leading_some class.Digit b z (ascii-digit-first s b z h e) in
@@ -196,10 +196,10 @@ scan-is s b z =
     (λ h. by_test (IsPieceOf (b ∷ z)) (b == 37) _ _ (λ h. run-is class.Line b z (percent-line b h))
     (λ h. by_test (IsPieceOf (b ∷ z)) (is_ascii_lowercase b) _ _
     (λ h. let r : (1 ≤ leading class.Word (b ∷ z))
-        × (leading class.Word (b ∷ z) ≤ length (b ∷ z)) = run-is class.Word b z (lower-word b h) in (r.0, r.1, word_is_ascii (b ∷ z)))
+    × (leading class.Word (b ∷ z) ≤ length (b ∷ z)) = run-is class.Word b z (lower-word b h) in (r.0, r.1, word_is_ascii (b ∷ z)))
     (λ h. by_test (IsPieceOf (b ∷ z)) (is_ascii_uppercase b || b == 95) _ _
     (λ h. let r : (1 ≤ leading class.Word (b ∷ z))
-        × (leading class.Word (b ∷ z) ≤ length (b ∷ z)) = run-is class.Word b z (upper-word b h) in (r.0, r.1, word_is_ascii (b ∷ z)))
+    × (leading class.Word (b ∷ z) ≤ length (b ∷ z)) = run-is class.Word b z (upper-word b h) in (r.0, r.1, word_is_ascii (b ∷ z)))
     (λ h. by_test (IsPieceOf (b ∷ z)) (b == 39 || b == 34) _ _ (λ h. quoted-is b z h)
     (λ h. by_test (IsPieceOf (b ∷ z)) (begins_number s (b ∷ z)) _ _ (λ h. number_piece-is (b ∷ z) (number (b ∷ z)) (number-short s b z h))
     (λ h. mark_piece-is (b ∷ z) (mark (b ∷ z)) (mark-short (b ∷ z))))))))

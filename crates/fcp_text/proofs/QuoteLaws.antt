@@ -30,7 +30,7 @@ stays-second q (b ∷ e) rest l h = ap (λ z. b ∷ z) (stays q e rest (λ k m. 
 beyond : (c q k : ℕ) → (c < 128 → ⊥) → q < 128 → k < length (encode c) → (get_or (encode c) k 0 == q) ≡ false
 beyond c q k h l m =
     no-quote (get_or (encode c) k 0) q l
-        (λ g. h (subst (λ x. x < 128) (sym (inside_one c [] (encode c) k (sym (append-nil (encode c))) m g)) g))
+    (λ g. h (subst (λ x. x < 128) (sym (inside_one c [] (encode c) k (sym (append-nil (encode c))) m g)) g))
 
 some-bytes : (c : ℕ) → 1 ≤ length (encode c)
 some-bytes c =
@@ -55,7 +55,7 @@ module _ (q c : ℕ) (cs : List ℕ) (l : q < 128) (scalar-c : scalar c ≡ true
   ascii-step m false =
       by_test IsUtf8 (c == q) (without_quotes q true (encodes cs)) (c ∷ without_quotes q false (encodes cs)) (λ h. rest true)
       (λ h. IsUtf8-append (c ∷ []) (without_quotes q false (encodes cs)) (subst IsUtf8 (encode_ascii c m) (IsUtf8-encode c scalar-c))
-          (rest false))
+      (rest false))
 
   other-step : (c < 128 → ⊥) → (s : Bool) → IsUtf8 (without_quotes q s (encode c ++ encodes cs))
   other-step m true =
@@ -68,7 +68,7 @@ module _ (q c : ℕ) (cs : List ℕ) (l : q < 128) (scalar-c : scalar c ≡ true
   step : (s : Bool) → IsUtf8 (without_quotes q s (encode c ++ encodes cs))
   step s =
       choose (nat_lt c 128) (λ h. subst (λ e. IsUtf8 (without_quotes q s (e ++ encodes cs))) (sym (encode_ascii c (below-of c h)))
-          (ascii-step (below-of c h) s))
+      (ascii-step (below-of c h) s))
       (λ h. other-step (not-below c h) s)
 
 without_quotes-chars : (q : ℕ) (cs : List ℕ) → q < 128 → scalars cs ≡ true → (s : Bool) → IsUtf8 (without_quotes q s (encodes cs))

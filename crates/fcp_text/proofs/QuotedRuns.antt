@@ -33,9 +33,9 @@ pub no_quote : (bs : List ℕ) → position is_quote bs ≡ None → doubled bs 
 no_quote bs e =
     none_of bs (λ k l. elim (nat_lt (position_or_len is_quote bs) (length bs)) as
     (λ b. nat_lt (position_or_len is_quote bs) (length bs) ≡ b → is_quote (get_or bs k 0) ≡ false) [
-  | true ↦ λ t. let q : Some (position_or_len is_quote bs) ≡ None = rw t at e in absurd (cc)
-  | false ↦ λ t. fails_before_first is_quote bs k 0 (grind arith)
-] refl)
+      | true ↦ λ t. let q : Some (position_or_len is_quote bs) ≡ None = rw t at e in absurd (cc)
+      | false ↦ λ t. fails_before_first is_quote bs k 0 (grind arith)
+    ] refl)
 
 -- the rest of a slice
 behind : (n : ℕ) (bs : List ℕ) → drop n bs ≡ take (length bs - n) (drop n bs)

@@ -108,7 +108,7 @@ module _ (names : List Bytes) where
   text_as_call (t ∷ u ∷ us) s e =
       let is : t ≡ Str s = rw e at (named t) in
       let texts : term_texts names t ≡ no_list true (string_text (name_at names s.0)) =
-          ap (term_texts names) is ∙ fold-Str TermTexts (text_step names) s in
+      ap (term_texts names) is ∙ fold-Str TermTexts (text_step names) s in
       tuple-text (t ∷ u ∷ us) ∙ ap (λ x. tuple_of (x ∷ map (term_texts names) (u ∷ us))) texts
       ∙ ap (λ xs. string_text (name_at names s.0) ++ (codes "(" ++ xs ++ codes ")")) (parts-text (u ∷ us))
 

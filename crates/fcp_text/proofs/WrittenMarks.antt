@@ -85,7 +85,7 @@ unfolding scan
 from s b z p f n e =
     passed (is_blank b) _ _ _ f.0 (passed (b == 37) _ _ _ f.1 (passed (is_ascii_lowercase b) _ _ _ f.2
     (passed (is_ascii_uppercase b || b == 95) _ _ _ f.3
-        (passed (b == 39 || b == 34) _ _ _ f.4 (passed (begins_number s (b ∷ z)) _ _ _ n e)))))
+    (passed (b == 39 || b == 34) _ _ _ f.4 (passed (begins_number s (b ∷ z)) _ _ _ n e)))))
 
 plain : (s : Bool) (b : ℕ) (z : Text) (p : Piece) → IsMarkFirst b → is_ascii_digit b ≡ false → (b == 45) ≡ false
     → mark_piece (mark (b ∷ z)) ≡ p → scan s (b ∷ z) ≡ p
@@ -200,16 +200,73 @@ unfolding mark
 mark-hash s rest h = plain s 35 rest _ (refl, refl, refl, refl, refl) refl refl refl
 
 each-mark : Each marks
-each-mark =
-    (mark-not_same, (mark-equal, (mark-not_equal,
-    (mark-if_sign, (mark-assign, (mark-same,
-    (mark-at_most, (mark-at_least,
-    (mark-round_open, (mark-round_close,
-    (mark-square_open, (mark-square_close,
-    (mark-curly_open, (mark-curly_close,
-    (mark-bar, (mark-comma, (mark-dot,
-    (mark-question, (mark-equals, (mark-less,
-    (mark-greater, (mark-plus, (mark-minus, (mark-times, (mark-divide, (mark-colon, (mark-hash, tt)))))))))))))))))))))))))))
+each-mark = (
+  mark-not_same,
+  (
+    mark-equal,
+    (
+      mark-not_equal,
+      (
+        mark-if_sign,
+        (
+          mark-assign,
+          (
+            mark-same,
+            (
+              mark-at_most,
+              (
+                mark-at_least,
+                (
+                  mark-round_open,
+                  (
+                    mark-round_close,
+                    (
+                      mark-square_open,
+                      (
+                        mark-square_close,
+                        (
+                          mark-curly_open,
+                          (
+                            mark-curly_close,
+                            (
+                              mark-bar,
+                              (
+                                mark-comma,
+                                (
+                                  mark-dot,
+                                  (
+                                    mark-question,
+                                    (
+                                      mark-equals,
+                                      (
+                                        mark-less,
+                                        (
+                                          mark-greater,
+                                          (
+                                            mark-plus,
+                                            (mark-minus, (mark-times, (mark-divide, (mark-colon, (mark-hash, tt))))),
+                                          ),
+                                        ),
+                                      ),
+                                    ),
+                                  ),
+                                ),
+                              ),
+                            ),
+                          ),
+                        ),
+                      ),
+                    ),
+                  ),
+                ),
+              ),
+            ),
+          ),
+        ),
+      ),
+    ),
+  ),
+)
 
 row : (ms : List (Text × ℕ)) (k : ℕ) (m : Text × ℕ) → Each ms → slice_get ms k ≡ Some m → P m
 row [] k m e h = absurd (cc)
@@ -225,7 +282,7 @@ some-byte (l ∷ ms) (suc k) m e h = some-byte ms k m (and-second (nat_lt 0 (len
 -- a mark of the table
 pub lex-mark : (s : Bool) (at k n : ℕ) (m rest : Text) → slice_get marks k ≡ Some (m, n) → MayFollow n rest
     → lex_from s at 0 (m ++ rest) ≡ front (record { kind = kind.Mark n; at = at; len = length m } ∷ [])
-        (lex_from (sign_after m (kind.Mark n)) (at + length m) 0 rest)
+    (lex_from (sign_after m (kind.Mark n)) (at + length m) 0 rest)
 lex-mark s at k n m rest h f =
     lex-piece s at m rest (kind.Mark n) (above (length m) (some-byte marks k (m, n) refl h)) (row marks k (m, n) each-mark h s rest f)
   where

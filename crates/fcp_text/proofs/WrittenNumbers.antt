@@ -103,30 +103,30 @@ fits-negative v h = grind (arith, nat_tests)
 lex-digits : (s : Bool) (at v : ℕ) (ds rest : Text) → 1 ≤ length ds → all_ascii_digits ds ≡ true → digits_value ds ≡ v
     → v < 9223372036854775808 → EndsDigits rest
     → lex_from s at 0 (ds ++ rest)
-        ≡ front (record { kind = kind.Int (pos v); at = at; len = length ds } ∷ []) (lex_from false (at + length ds) 0 rest)
+    ≡ front (record { kind = kind.Int (pos v); at = at; len = length ds } ∷ []) (lex_from false (at + length ds) 0 rest)
 lex-digits s at v [] rest l h g m e = absurd (omega arith)
 lex-digits s at v (b ∷ ds) rest l h g m e =
     let d : is_ascii_digit b ≡ true = and-first (is_ascii_digit b) _ h in
     let n : 0 + length (b ∷ ds) ≡ length (b ∷ ds) = omega arith in
     lex-piece s at (b ∷ ds) rest (kind.Int (pos v)) l
     (scan-digit s b (ds ++ rest) d ∙ ap number_piece (unsigned-is b v ds rest (digit-minus b d) h e g (fits-below v m))
-        ∙ ap (piece.Token (kind.Int (pos v))) n)
+    ∙ ap (piece.Token (kind.Int (pos v))) n)
 
 -- a number that is not negative
 pub lex-decimal : (s : Bool) (at n : ℕ) (rest : Text) → n < 9223372036854775808 → EndsDigits rest
     → lex_from s at 0 (decimal n ++ rest)
-        ≡ front (record { kind = kind.Int (pos n); at = at; len = length (decimal n) } ∷ [])
-        (lex_from false (at + length (decimal n)) 0 rest)
+    ≡ front (record { kind = kind.Int (pos n); at = at; len = length (decimal n) } ∷ [])
+    (lex_from false (at + length (decimal n)) 0 rest)
 lex-decimal s at n rest h e =
     let k : n < 2 ^ 64 = omega arith in
     lex-digits s at n (decimal n) rest (omega (arith, decimal_nonempty n k)) (digits_decimal decimal-numerals n k)
-        (digits_value-decimal decimal-numerals n k) h e
+    (digits_value-decimal decimal-numerals n k) h e
 
 lex-minus : (at n : ℕ) (ds rest : Text) → 1 ≤ length ds → all_ascii_digits ds ≡ true → digits_value ds ≡ suc n → n < 9223372036854775808
     → EndsDigits rest
     → lex_from true at 0 ((45 ∷ ds) ++ rest)
-        ≡ front (record { kind = kind.Int (negsuc n); at = at; len = length (45 ∷ ds) } ∷ [])
-        (lex_from false (at + length (45 ∷ ds)) 0 rest)
+    ≡ front (record { kind = kind.Int (negsuc n); at = at; len = length (45 ∷ ds) } ∷ [])
+    (lex_from false (at + length (45 ∷ ds)) 0 rest)
 lex-minus at n [] rest l h g m e = absurd (omega arith)
 lex-minus at n (b ∷ ds) rest l h g m e =
     let d : is_ascii_digit b ≡ true = and-first (is_ascii_digit b) _ h in
@@ -134,17 +134,17 @@ lex-minus at n (b ∷ ds) rest l h g m e =
     let f : suc n ≤ 9223372036854775808 = omega arith in
     lex-piece true at (45 ∷ b ∷ ds) rest (kind.Int (negsuc n)) (omega arith)
     (scan-minus b (ds ++ rest) d ∙ ap number_piece (signed-is (suc n) (b ∷ ds) rest h e g (fits-negative (suc n) f))
-        ∙ ap (piece.Token (kind.Int (negsuc n))) k)
+    ∙ ap (piece.Token (kind.Int (negsuc n))) k)
 
 -- a negative number, where a sign may stand: `negsuc n` is one below minus n
 pub lex-negative : (at n : ℕ) (rest : Text) → n < 9223372036854775808 → EndsDigits rest
     → lex_from true at 0 ((45 ∷ decimal (suc n)) ++ rest)
-        ≡ front (record { kind = kind.Int (negsuc n); at = at; len = length (45 ∷ decimal (suc n)) } ∷ [])
-        (lex_from false (at + length (45 ∷ decimal (suc n))) 0 rest)
+    ≡ front (record { kind = kind.Int (negsuc n); at = at; len = length (45 ∷ decimal (suc n)) } ∷ [])
+    (lex_from false (at + length (45 ∷ decimal (suc n))) 0 rest)
 lex-negative at n rest h e =
     let k : suc n < 2 ^ 64 = omega arith in
     lex-minus at n (decimal (suc n)) rest (omega (arith, decimal_nonempty (suc n) k)) (digits_decimal decimal-numerals (suc n) k)
-        (digits_value-decimal decimal-numerals (suc n) k) h e
+    (digits_value-decimal decimal-numerals (suc n) k) h e
 
 -- the sign of a negative number may stand here
 abbrev pub MayStand : Bool → ℤ → Type 0
@@ -154,8 +154,8 @@ MayStand s (negsuc n) = (s ≡ true) × (n < 9223372036854775808)
 -- a number of 64 bits
 pub lex-number : (s : Bool) (at : ℕ) (i : ℤ) (rest : Text) → MayStand s i → EndsDigits rest
     → lex_from s at 0 (signed_decimal i ++ rest)
-        ≡ front (record { kind = kind.Int i; at = at; len = length (signed_decimal i) } ∷ [])
-        (lex_from false (at + length (signed_decimal i)) 0 rest)
+    ≡ front (record { kind = kind.Int i; at = at; len = length (signed_decimal i) } ∷ [])
+    (lex_from false (at + length (signed_decimal i)) 0 rest)
 lex-number s at (pos n) rest h e = lex-decimal s at n rest h e
 lex-number s at (negsuc n) rest h e =
     ap (λ t. lex_from t at 0 (signed_decimal (negsuc n) ++ rest)) h.0 ∙ lex-negative at n rest h.1 e

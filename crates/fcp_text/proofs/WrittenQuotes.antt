@@ -35,7 +35,7 @@ over-one : (at b : ℕ) (z : Text) (c : Bool) → (b == 39) ≡ c → is_in clas
 over-one at b z true h l = let e : (at + 1) + 1 ≡ at + 2 = omega arith in ap (λ k. closing 39 false k z) e
 over-one at b z false h l =
     ap (λ c. if c then None else (if b == 39 && not (slice_index z 0 == 39) then Some (at + 1) else closing 39 (b == 39) (at + 1) z))
-        (no-feed b l)
+    (no-feed b l)
     ∙ ap (λ c. if c && not (slice_index z 0 == 39) then Some (at + 1) else closing 39 c (at + 1) z) h
   where
     no-feed : (b : ℕ) → is_in class.Line b ≡ true → (b == 10) ≡ false
@@ -49,7 +49,7 @@ closing-doubled at (b ∷ bs) rest l e =
     let t : Text = twice (b == 39) b in
     let k : (at + length t) + length (doubled bs) + 1 ≡ at + length (t ++ doubled bs) + 1 = omega (arith, length-append t (doubled bs)) in
     ap (closing 39 false at) (append_assoc t (doubled bs) (39 ∷ rest))
-        ∙ over-one at b (doubled bs ++ 39 ∷ rest) (b == 39) refl (and-first (is_in class.Line b) _ l)
+    ∙ over-one at b (doubled bs ++ 39 ∷ rest) (b == 39) refl (and-first (is_in class.Line b) _ l)
     ∙ closing-doubled (at + length t) bs rest (and-second (is_in class.Line b) _ l) e ∙ ap Some k
 
 -- a string between quotes, each quote in it doubled
@@ -67,8 +67,8 @@ scan-quoted s bs rest l e =
 -- a quoted string on one line
 pub lex-quoted : (s : Bool) (at : ℕ) (bs rest : Text) → IsLine bs → EndsQuote rest
     → lex_from s at 0 (between_quotes bs ++ rest)
-        ≡ front (record { kind = kind.Quoted; at = at; len = length (between_quotes bs) } ∷ [])
-        (lex_from false (at + length (between_quotes bs)) 0 rest)
+    ≡ front (record { kind = kind.Quoted; at = at; len = length (between_quotes bs) } ∷ [])
+    (lex_from false (at + length (between_quotes bs)) 0 rest)
 lex-quoted s at bs rest l e = lex-piece s at (between_quotes bs) rest kind.Quoted (omega arith) (scan-quoted s bs rest l e)
 
 single : (b : ℕ) (z w : Text) (c : Bool) → (b == 39) ≡ c → without_quotes 39 false z ≡ w → without_quotes 39 false (twice c b ++ z) ≡ b ∷ w
@@ -82,7 +82,7 @@ without-doubled : (bs : Text) → without_quotes 39 false (doubled bs ++ 39 ∷ 
 without-doubled [] = refl
 without-doubled (b ∷ bs) =
     ap (without_quotes 39 false) (append_assoc (twice (b == 39) b) (doubled bs) (39 ∷ []))
-        ∙ single b (doubled bs ++ 39 ∷ []) bs (b == 39) refl (without-doubled bs)
+    ∙ single b (doubled bs ++ 39 ∷ []) bs (b == 39) refl (without-doubled bs)
 
 -- the string of such a token is the string that was written
 pub unquoted-between_quotes : (bs : Text) → unquoted (between_quotes bs) ≡ bs
@@ -96,7 +96,7 @@ lex-by_form : (s c : Bool) (at : ℕ) (bs rest : Text) → is_name bs ≡ c → 
     → lex_from s at 0 ((if c then bs else between_quotes bs) ++ rest)
     ≡ front (record { kind = if c then kind.Name else kind.Quoted; at = at; len = length (if c then bs else between_quotes bs) } ∷ [])
     (lex_from (sign_after (if c then bs else between_quotes bs) (if c then kind.Name else kind.Quoted))
-        (at + length (if c then bs else between_quotes bs)) 0 rest)
+    (at + length (if c then bs else between_quotes bs)) 0 rest)
 lex-by_form s true at bs rest h l e f = lex-name s at bs rest h e
 lex-by_form s false at bs rest h l e f = lex-quoted s at bs rest l f
 
@@ -104,5 +104,5 @@ lex-by_form s false at bs rest h l e f = lex-quoted s at bs rest l f
 pub lex-string : (s : Bool) (at : ℕ) (bs rest : Text) → IsLine bs → EndsWord rest → EndsQuote rest
     → lex_from s at 0 (string_text bs ++ rest)
     ≡ front (record { kind = string_kind bs; at = at; len = length (string_text bs) } ∷ [])
-        (lex_from (sign_after (string_text bs) (string_kind bs)) (at + length (string_text bs)) 0 rest)
+    (lex_from (sign_after (string_text bs) (string_kind bs)) (at + length (string_text bs)) 0 rest)
 lex-string s at bs rest l e f = lex-by_form s (is_name bs) at bs rest refl l e f

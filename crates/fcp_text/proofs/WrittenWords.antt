@@ -22,13 +22,13 @@ use Rattle.fcp_text.proofs.Digits.{decimal-numerals}
 -- a piece that is a token of all bytes of a text, and then what follows the text
 pub lex-piece : (s : Bool) (at : ℕ) (text rest : Text) (k : Kind) → 1 ≤ length text → scan s (text ++ rest) ≡ piece.Token k (length text)
     → lex_from s at 0 (text ++ rest)
-        ≡ front (record { kind = k; at = at; len = length text } ∷ []) (lex_from (sign_after text k) (at + length text) 0 rest)
+    ≡ front (record { kind = k; at = at; len = length text } ∷ []) (lex_from (sign_after text k) (at + length text) 0 rest)
 lex-piece s at text rest k l h =
     lex_token s (length text) at (text ++ rest) k (omega (arith, length-append {A = ℕ})) l h
     ∙ ap (λ t. front (record { kind = k; at = at; len = length text } ∷ [])
-        (lex_from (sign_after t k) (at + length text) 0 (drop (length text) (text ++ rest)))) (take_at text rest (length text) refl)
+    (lex_from (sign_after t k) (at + length text) 0 (drop (length text) (text ++ rest)))) (take_at text rest (length text) refl)
     ∙ ap (λ t. front (record { kind = k; at = at; len = length text } ∷ []) (lex_from (sign_after text k) (at + length text) 0 t))
-        (drop_at text rest (length text) refl)
+    (drop_at text rest (length text) refl)
 
 -- no word goes on at the front of the text
 abbrev pub EndsWord : Text → Type 0
@@ -59,7 +59,7 @@ pub scan-name : (s : Bool) (name rest : Text) → is_name name ≡ true → Ends
 scan-name s [] rest h e = absurd (cc)
 scan-name s (b ∷ z) rest h e =
     scan-lower s b (z ++ rest) (and-first (is_ascii_lowercase b) _ h)
-        ∙ ap (piece.Token kind.Name) (word-len (b ∷ z) rest (and-second (is_ascii_lowercase b) _ h) e)
+    ∙ ap (piece.Token kind.Name) (word-len (b ∷ z) rest (and-second (is_ascii_lowercase b) _ h) e)
 
 name-some : (name : Text) → is_name name ≡ true → 1 ≤ length name
 name-some [] h = absurd (cc)
@@ -68,8 +68,8 @@ name-some (b ∷ z) h = omega arith
 -- a name
 pub lex-name : (s : Bool) (at : ℕ) (name rest : Text) → is_name name ≡ true → EndsWord rest
     → lex_from s at 0 (name ++ rest)
-        ≡ front (record { kind = kind.Name; at = at; len = length name } ∷ [])
-        (lex_from (sign_after name kind.Name) (at + length name) 0 rest)
+    ≡ front (record { kind = kind.Name; at = at; len = length name } ∷ [])
+    (lex_from (sign_after name kind.Name) (at + length name) 0 rest)
 lex-name s at name rest h e = lex-piece s at name rest kind.Name (name-some name h) (scan-name s name rest h e)
 
 upper-blank : (b : ℕ) → (is_ascii_uppercase b || b == 95) ≡ true → is_blank b ≡ false
@@ -99,7 +99,7 @@ both false b h g = h
 pub lex-variable : (s : Bool) (at b : ℕ) (z rest : Text) → (is_ascii_uppercase b || b == 95) ≡ true → list_all is_word_byte z ≡ true
     → EndsWord rest
     → lex_from s at 0 ((b ∷ z) ++ rest)
-        ≡ front (record { kind = kind.Variable; at = at; len = length (b ∷ z) } ∷ []) (lex_from false (at + length (b ∷ z)) 0 rest)
+    ≡ front (record { kind = kind.Variable; at = at; len = length (b ∷ z) } ∷ []) (lex_from false (at + length (b ∷ z)) 0 rest)
 lex-variable s at b z rest h g e =
     lex-piece s at (b ∷ z) rest kind.Variable (omega arith)
     (scan-upper s b (z ++ rest) h ∙ ap (piece.Token kind.Variable) (word-len (b ∷ z) rest (both (is_word_byte b) _ (upper-word b h) g) e))
@@ -115,8 +115,8 @@ digits-word (b ∷ ds) h =
 -- the variable of a number, as `V12`
 pub lex-numbered : (s : Bool) (at k : ℕ) (rest : Text) → k < 2 ^ 64 → EndsWord rest
     → lex_from s at 0 ((86 ∷ decimal k) ++ rest)
-        ≡ front (record { kind = kind.Variable; at = at; len = length (86 ∷ decimal k) } ∷ [])
-        (lex_from false (at + length (86 ∷ decimal k)) 0 rest)
+    ≡ front (record { kind = kind.Variable; at = at; len = length (86 ∷ decimal k) } ∷ [])
+    (lex_from false (at + length (86 ∷ decimal k)) 0 rest)
 lex-numbered s at k rest h e = lex-variable s at 86 (decimal k) rest refl (digits-word (decimal k) (digits_decimal decimal-numerals k h)) e
 
 -- a space, and a line feed

@@ -1,13 +1,13 @@
 ghost use Rattle.std.specs.Prelude.{decimal, ◌++◌, codes};
 ghost use Rattle.std.specs.Fmt.{signed_decimal};
-ghost use Rattle.fcp_model.specs.Spelling.{doubled, string_text, is_name, is_word_byte, name_at};
-ghost use Rattle.std.specs.List.{list_all, position};
+ghost use Rattle.fcp_model.specs.Spelling.{doubled, string_text, name_at};
+ghost use Rattle.std.specs.List.{position};
 ghost use Rattle.std.specs.Prelude.{◌≡◌};
 ghost use Rattle.fcp_text.specs.Writing.{IsWritten};
 ghost use Rattle.fcp_text.specs.Quotes.{is_quote};
 
+use fcp_model::spelling::{Decimal, is_name};
 use fcp_model::{Names, Sym};
-use itoa::Buffer;
 use logix_edge::{Put, Sink, SinkFailed};
 
 /// Puts a piece.
@@ -24,14 +24,14 @@ pub(crate) fn put<K: Sink>(sink: &mut K, piece: &[u8]) -> Result<(), SinkFailed>
 pub(crate) fn write_count<K: Sink>(count: u32, sink: &mut K) -> Result<(), SinkFailed>
     ensures { IsWritten (K.written sink.old) (K.written sink.new) (K.faults sink.old) (K.faults sink.new) (decimal count) result }
 {
-    put(sink, Buffer::new().format(count).as_bytes())
+    put(sink, Decimal::of(i64::from(count)).as_bytes())
 }
 
 /// Puts a number in decimal, with `-` where it is negative.
 pub(crate) fn write_number<K: Sink>(number: i64, sink: &mut K) -> Result<(), SinkFailed>
     ensures { IsWritten (K.written sink.old) (K.written sink.new) (K.faults sink.old) (K.faults sink.new) (signed_decimal number) result }
 {
-    put(sink, Buffer::new().format(number).as_bytes())
+    put(sink, Decimal::of(number).as_bytes())
 }
 
 /// Puts a writable occurrence of a variable.
@@ -63,8 +63,9 @@ pub(crate) fn write_string<K: Sink>(
     ensures { IsWritten (K.written sink.old) (K.written sink.new) (K.faults sink.old) (K.faults sink.new)
         (string_text (name_at names.now string.0)) result }
 {
-    let bytes = names.get(string).unwrap_or("").as_bytes();
-    if is_name(bytes) {
+    let text = names.get(string).unwrap_or("");
+    let bytes = text.as_bytes();
+    if is_name(text) {
         return put(sink, bytes);
     }
     put(sink, b"'")?;
@@ -90,28 +91,4 @@ fn first_quote(bytes: &[u8]) -> Option<usize>
     ensures { result ≡ position is_quote bytes.now }
 {
     bytes.iter().position(|byte| *byte == b'\'')
-}
-
-/// Whether a string has the form of a name: a lower-case letter, then letters, digits and `_`.
-fn is_name(string: &[u8]) -> bool
-    ensures { result ≡ is_name string.now }
-{
-    match string.first() {
-        None => false,
-        Some(first) => first.is_ascii_lowercase() && are_word_bytes(string),
-    }
-}
-
-/// Whether there are letters, digits and `_` alone.
-fn are_word_bytes(string: &[u8]) -> bool
-    ensures { result ≡ list_all is_word_byte string.now }
-{
-    string.iter().all(|byte| is_word_byte(*byte))
-}
-
-/// A letter, a digit or `_`.
-fn is_word_byte(byte: u8) -> bool
-    ensures { result ≡ is_word_byte byte }
-{
-    byte.is_ascii_alphanumeric() || byte == b'_'
 }

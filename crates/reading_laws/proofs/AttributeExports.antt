@@ -88,7 +88,7 @@ slash-terminal at n = refl
 
 spec-terminals : (s : Sym) (form : StringForm) (at d : ℕ) (n : ℤ) (i : ℕ) → is_no_arity n ≡ false → (rest : List Marked)
     → plain (terminal.Str s form at) ∷ plain (terminal.Operator Div d) ∷ plain (terminal.Int n i) ∷ rest
-        ≡ spell_spec (spec s form at d n i) rest
+    ≡ spell_spec (spec s form at d n i) rest
 spec-terminals s form at d n i h rest =
     ap (λ m. plain (terminal.Str s form at) ∷ plain (terminal.Operator Div d) ∷ (terminal.Int n i, m) ∷ rest) (sym h)
 
@@ -104,13 +104,13 @@ export-reads names e p h =
     let b : Position = behind_piece a (mark signs.divide) in
     let d : Position = behind_piece b (number (pos e.arity)) in
     let f : Follows (spelled_export names e) []
-        (λ rest. plain (terminal.Str s (string_form bs) p.at) ∷ plain (terminal.Operator Div a.at) ∷ plain (terminal.Int (pos e.arity) b.at)
-        ∷ rest) p d =
+    (λ rest. plain (terminal.Str s (string_form bs) p.at) ∷ plain (terminal.Operator Div a.at) ∷ plain (terminal.Int (pos e.arity) b.at)
+    ∷ rest) p d =
     (then) (λ ps. string bs ∷ ps) (λ ps. mark signs.divide ∷ number (pos e.arity) ∷ ps) [] []
-        (λ rest. plain (terminal.Str s (string_form bs) p.at) ∷ rest)
+    (λ rest. plain (terminal.Str s (string_form bs) p.at) ∷ rest)
     (λ rest. plain (terminal.Operator Div a.at) ∷ plain (terminal.Int (pos e.arity) b.at) ∷ rest) p a d (string-follows p bs)
     ((then) (λ ps. mark signs.divide ∷ ps) (λ ps. number (pos e.arity) ∷ ps) [] [] (λ rest. plain (terminal.Operator Div a.at) ∷ rest)
-        (λ rest. plain (terminal.Int (pos e.arity) b.at) ∷ rest) a b d
+    (λ rest. plain (terminal.Int (pos e.arity) b.at) ∷ rest) a b d
     (mark-follows a signs.divide (terminal.Operator Div a.at) (slash-terminal a.at a.count) refl) (number-follows b (pos e.arity))) in
     record {
       tree = spec s (string_form bs) p.at a.at (pos e.arity) b.at;
@@ -144,12 +144,12 @@ more-exports names (e ∷ es) p h =
       after = y.after;
       follows =
           (then) comma (λ ps. spelled_export names e (w ps)) [] [] (λ rest. plain terminal.Comma ∷ rest)
-              (λ rest. spell_spec x.tree (spell_more_specs y.trees rest)) p a y.after
+          (λ rest. spell_spec x.tree (spell_more_specs y.trees rest)) p a y.after
           (mark-follows p signs.comma terminal.Comma (comma-terminal p.at p.count) refl)
           ((then) (spelled_export names e) w [] [] (spell_spec x.tree) (spell_more_specs y.trees) a x.after y.after x.follows y.follows);
       same = λ final g v.
           ap (λ z. z ∷ map (export_with (by_text g final)) (map spec_value y.trees))
-              (x.same final g (grows-on x.after.names y.after.names final y.follows.grows v))
+          (x.same final g (grows-on x.after.names y.after.names final y.follows.grows v))
           ∙ ap (λ zs. export_with (by_text g names) e ∷ zs) (y.same final g v);
     }
 
@@ -180,6 +180,6 @@ exports-read names (e ∷ es) p h =
       same = λ final g v.
           ap (map (export_with (by_text g final))) l.values
           ∙ ap (λ z. z ∷ map (export_with (by_text g final)) (map spec_value y.trees))
-              (x.same final g (grows-on x.after.names y.after.names final y.follows.grows v))
+          (x.same final g (grows-on x.after.names y.after.names final y.follows.grows v))
           ∙ ap (λ zs. export_with (by_text g names) e ∷ zs) (y.same final g v);
     }

@@ -61,20 +61,20 @@ behind_opening p bs = behind_piece (behind_piece (behind_piece p (mark signs.min
 
 opening-follows : (bs : Text) (p : Position) → Follows (λ ps. mark signs.minus ∷ string bs ∷ mark signs.round_open ∷ ps) []
     (λ rest. plain (terminal.Operator Sub p.at)
-        ∷ plain (terminal.Str (string_of (number_of p.names bs)) (string_form bs) (behind_piece p (mark signs.minus)).at)
-        ∷ plain (terminal.RoundOpen (behind_piece (behind_piece p (mark signs.minus)) (string bs)).at) ∷ rest)
+    ∷ plain (terminal.Str (string_of (number_of p.names bs)) (string_form bs) (behind_piece p (mark signs.minus)).at)
+    ∷ plain (terminal.RoundOpen (behind_piece (behind_piece p (mark signs.minus)) (string bs)).at) ∷ rest)
     p (behind_opening p bs)
 opening-follows bs p =
     let a : Position = behind_piece p (mark signs.minus) in
     let b : Position = behind_piece a (string bs) in
     let d : Position = behind_piece b (mark signs.round_open) in
     (then) (λ ps. mark signs.minus ∷ ps) (λ ps. string bs ∷ mark signs.round_open ∷ ps) [] []
-        (λ rest. plain (terminal.Operator Sub p.at) ∷ rest)
+    (λ rest. plain (terminal.Operator Sub p.at) ∷ rest)
     (λ rest. plain (terminal.Str (string_of (number_of p.names bs)) (string_form bs) a.at) ∷ plain (terminal.RoundOpen b.at) ∷ rest) p a d
-        (mark-follows p signs.minus (terminal.Operator Sub p.at) (minus-terminal p.at p.count) refl)
+    (mark-follows p signs.minus (terminal.Operator Sub p.at) (minus-terminal p.at p.count) refl)
     ((then) (λ ps. string bs ∷ ps) (λ ps. mark signs.round_open ∷ ps) [] []
-        (λ rest. plain (terminal.Str (string_of (number_of p.names bs)) (string_form bs) a.at) ∷ rest)
-        (λ rest. plain (terminal.RoundOpen b.at) ∷ rest) a b d
+    (λ rest. plain (terminal.Str (string_of (number_of p.names bs)) (string_form bs) a.at) ∷ rest)
+    (λ rest. plain (terminal.RoundOpen b.at) ∷ rest) a b d
     (string-follows a bs) (mark-follows b signs.round_open (terminal.RoundOpen b.at) (round_open-terminal b.at b.count) refl))
 
 -- ---- the name
@@ -106,10 +106,10 @@ name-reads names (Some s) p z =
           then-closes (λ ps. mark signs.minus ∷ string (codes "module") ∷ mark signs.round_open ∷ ps) (λ ps. string bs ∷ closing_line ps) []
           (λ rest. plain (terminal.Operator Sub p.at) ∷ plain (terminal.Str m F.Module a.at) ∷ plain (terminal.RoundOpen b.at) ∷ rest)
           (λ rest. plain (terminal.Str k (string_form bs) d.at) ∷ plain terminal.RoundClose ∷ plain (terminal.Dot 0) ∷ rest) p d
-              (behind_closing e)
+          (behind_closing e)
           (opening-follows (codes "module") p)
           (then-closes (λ ps. string bs ∷ ps) closing_line [] (λ rest. plain (terminal.Str k (string_form bs) d.at) ∷ rest)
-              (λ rest. plain terminal.RoundClose ∷ plain (terminal.Dot 0) ∷ rest) d e (behind_closing e)
+          (λ rest. plain terminal.RoundClose ∷ plain (terminal.Dot 0) ∷ rest) d e (behind_closing e)
           (string-follows d bs) (closing-closes 0 e z));
       said = Some k;
       value = refl;
@@ -145,27 +145,27 @@ list-reads names (Some es) p z h =
       after = behind_closing j;
       closes =
           then-closes (λ ps. mark signs.minus ∷ string (codes "export") ∷ mark signs.round_open ∷ ps)
-              (λ ps. mark signs.square_open ∷ parted_by comma (map (spelled_export names) es)
-              (mark signs.square_close ∷ closing_line ps)) []
+          (λ ps. mark signs.square_open ∷ parted_by comma (map (spelled_export names) es)
+          (mark signs.square_close ∷ closing_line ps)) []
           (λ rest. plain (terminal.Operator Sub p.at) ∷ plain (terminal.Str m F.Export a.at) ∷ plain (terminal.RoundOpen b.at) ∷ rest)
           (λ rest. plain (terminal.SquareOpen d.at)
-              ∷ spell_listing x.tree (plain terminal.SquareClose ∷ plain terminal.RoundClose ∷ plain (terminal.Dot 0) ∷ rest)) p d
-              (behind_closing j)
+          ∷ spell_listing x.tree (plain terminal.SquareClose ∷ plain terminal.RoundClose ∷ plain (terminal.Dot 0) ∷ rest)) p d
+          (behind_closing j)
           (opening-follows (codes "export") p)
           (then-closes (λ ps. mark signs.square_open ∷ ps)
-              (λ ps. parted_by comma (map (spelled_export names) es) (mark signs.square_close ∷ closing_line ps)) []
-              (λ rest. plain (terminal.SquareOpen d.at) ∷ rest)
+          (λ ps. parted_by comma (map (spelled_export names) es) (mark signs.square_close ∷ closing_line ps)) []
+          (λ rest. plain (terminal.SquareOpen d.at) ∷ rest)
           (λ rest. spell_listing x.tree (plain terminal.SquareClose ∷ plain terminal.RoundClose ∷ plain (terminal.Dot 0) ∷ rest)) d i
-              (behind_closing j)
+          (behind_closing j)
           (mark-follows d signs.square_open (terminal.SquareOpen d.at) (square_open-terminal d.at d.count) refl)
           (then-closes (parted_by comma (map (spelled_export names) es)) (λ ps. mark signs.square_close ∷ closing_line ps) []
-              (spell_listing x.tree) (λ rest. plain terminal.SquareClose ∷ plain terminal.RoundClose ∷ plain (terminal.Dot 0)
-              ∷ rest) i x.after (behind_closing j)
+          (spell_listing x.tree) (λ rest. plain terminal.SquareClose ∷ plain terminal.RoundClose ∷ plain (terminal.Dot 0)
+          ∷ rest) i x.after (behind_closing j)
           x.follows
           (then-closes (λ ps. mark signs.square_close ∷ ps) closing_line [] (λ rest. plain terminal.SquareClose ∷ rest)
-              (λ rest. plain terminal.RoundClose ∷ plain (terminal.Dot 0) ∷ rest) x.after j (behind_closing j)
+          (λ rest. plain terminal.RoundClose ∷ plain (terminal.Dot 0) ∷ rest) x.after j (behind_closing j)
           (mark-follows x.after signs.square_close terminal.SquareClose (square_close-terminal x.after.at x.after.count) refl)
-              (closing-closes 0 j (x.follows.count ∙ z)))));
+          (closing-closes 0 j (x.follows.count ∙ z)))));
       said = Some (listing_value x.tree);
       value = λ name front e. ap (λ v. with_exports v (listing_value x.tree)) e;
       same = λ final g w. ap Some (x.same final g w);

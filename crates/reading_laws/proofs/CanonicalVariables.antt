@@ -120,9 +120,11 @@ with-new ns n q =
 -- what it says of a number that it may stand there
 next-facts : (n k : ℕ) → is_next n k ≡ true → (1 ≤ k) × (k ≤ n + 1) × (k ≤ 250)
 next-facts n k h =
-    let front : nat_le 1 k && nat_le k (n + 1) ≡ true = and-first _ (nat_le k 250) h in
-    (leb-true 1 k (and-first _ (nat_le k (n + 1)) front), leb-true k (n + 1) (and-second (nat_le 1 k) _ front),
-        leb-true k 250 (and-second (nat_le 1 k && nat_le k (n + 1)) _ h))
+    let front : nat_le 1 k && nat_le k (n + 1) ≡ true = and-first _ (nat_le k 250) h in (
+      leb-true 1 k (and-first _ (nat_le k (n + 1)) front),
+      leb-true k (n + 1) (and-second (nat_le 1 k) _ front),
+      leb-true k 250 (and-second (nat_le 1 k && nat_le k (n + 1)) _ h),
+    )
 
 -- its number is the one that is written
 pub number-canonical : (n k : ℕ) → n ≤ 250 → is_next n k ≡ true → number (canonical n) (numbered_text k) ≡ k

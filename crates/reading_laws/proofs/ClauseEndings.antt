@@ -79,8 +79,13 @@ settled w ks s p q e f =
 pub closes-as : (w : Writing) (ks : List ℕ) (s t : List Marked → List Marked) (p q : Position) → ((rest : List Marked) → s rest ≡ t rest)
     → Closes w ks s p q → Closes w ks t p q
 closes-as w ks s t p q e f =
-    record { terminals = λ ps rest. f.terminals ps rest ∙ e (clean (piece_terminals q ps) rest); behind = f.behind; grows = f.grows;
-    count = f.count; order = f.order }
+    record {
+      terminals = λ ps rest. f.terminals ps rest ∙ e (clean (piece_terminals q ps) rest);
+      behind = f.behind;
+      grows = f.grows;
+      count = f.count;
+      order = f.order;
+    }
 
 -- where the reader stands behind the end of an attribute
 abbrev pub behind_closing : Position → Position
@@ -93,7 +98,7 @@ closing-closes n p e =
     let a : Position = behind_piece p (mark signs.round_close) in
     let b : Position = behind_piece a (mark signs.dot) in
     then-closes (λ ps. mark signs.round_close ∷ ps) (λ ps. mark signs.dot ∷ line_feed ∷ ps) [] (λ rest. plain terminal.RoundClose ∷ rest)
-        (λ rest. plain (terminal.Dot n) ∷ rest) p a (behind_piece b line_feed)
+    (λ rest. plain (terminal.Dot n) ∷ rest) p a (behind_piece b line_feed)
     (mark-follows p signs.round_close terminal.RoundClose (round_close-terminal p.at p.count) refl)
     (closes-on (λ ps. mark signs.dot ∷ ps) (λ ps. line_feed ∷ ps) [] (λ rest. plain (terminal.Dot n) ∷ rest) (λ rest. rest) a b
-        (behind_piece b line_feed) (dot-closes n a e) (line_feed-closes b refl))
+    (behind_piece b line_feed) (dot-closes n a e) (line_feed-closes b refl))

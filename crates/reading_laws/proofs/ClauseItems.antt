@@ -49,7 +49,7 @@ listed front last [] h = record { others = front; end = last; terminals = λ res
 listed front last (t ∷ ts) h =
     let f : over_items (item_values front ++ item_value last ∷ []) ≡ false = few (item_values front) (item_value last) (length ts) h in
     let l : Listed (and_item front last) t ts =
-        listed (and_item front last) t ts (fewer (item_values front) (item_value last) (length ts) h) in
+    listed (and_item front last) t ts (fewer (item_values front) (item_value last) (length ts) h) in
     record {
       others = l.others;
       end = l.end;
@@ -89,9 +89,9 @@ module _ (item-reads : (names : List Text) (call : Call) (p : Position) → is_s
       let a : Position = behind_piece (behind_piece p (mark signs.comma)) space in
       let ks : List ℕ = call_variables i.call in
       let x : ItemReads names i.call a =
-          item-reads names i.call a (and-first (is_small_call i.call) _ h) (next-first p.count ks (items_variables is) n) in
+      item-reads names i.call a (and-first (is_small_call i.call) _ h) (next-first p.count ks (items_variables is) n) in
       let m : are_next x.after.count (items_variables is) ≡ true =
-          subst (λ c. are_next c (items_variables is) ≡ true) (sym x.follows.count) (next-second p.count ks (items_variables is) n) in
+      subst (λ c. are_next c (items_variables is) ≡ true) (sym x.follows.count) (next-second p.count ks (items_variables is) n) in
       let y : MoreRead names is x.after = more-read names is x.after (and-second (is_small_call i.call) _ h) m in
       let w : Writing = each_after comma_space (map (λ (i : Item). spelled_item_call names i.call) is) in
       record {
@@ -100,13 +100,13 @@ module _ (item-reads : (names : List Text) (call : Call) (p : Position) → is_s
         after = y.after;
         follows =
             (then) comma_space (λ ps. spelled_item_call names i.call (w ps)) [] (ks ++ items_variables is)
-                (λ rest. plain terminal.Comma ∷ rest) (λ rest. spell_item false x.tree (spell_more y.trees rest)) p a y.after
+            (λ rest. plain terminal.Comma ∷ rest) (λ rest. spell_item false x.tree (spell_more y.trees rest)) p a y.after
             (comma_space-follows p)
             ((then) (spelled_item_call names i.call) w ks (items_variables is) (spell_item false x.tree)
-                (spell_more y.trees) a x.after y.after x.follows y.follows);
+            (spell_more y.trees) a x.after y.after x.follows y.follows);
         same = λ final g v.
             let e : item_with (by_text g final) (item_value x.tree) ≡ item_with (by_text g names) i =
-                x.same final g (grows-on x.after.names y.after.names final y.follows.grows v) in
+            x.same final g (grows-on x.after.names y.after.names final y.follows.grows v) in
             let f : items_with (by_text g final) (map item_value y.trees) ≡ items_with (by_text g names) is = y.same final g v in
             ap (λ z. z ∷ items_with (by_text g final) (map item_value y.trees)) e ∙ ap (λ zs. item_with (by_text g names) i ∷ zs) f;
       }
@@ -121,17 +121,17 @@ module _ (item-reads : (names : List Text) (call : Call) (p : Position) → is_s
       let s : list_all (λ (j : Item). is_small_call j.call) (i ∷ is) ≡ true = and-second (nat_le (length (i ∷ is)) 256) _ h in
       let ks : List ℕ = call_variables i.call in
       let x : ItemReads names i.call p =
-          item-reads names i.call p (and-first (is_small_call i.call) _ s) (next-first p.count ks (items_variables is) n) in
+      item-reads names i.call p (and-first (is_small_call i.call) _ s) (next-first p.count ks (items_variables is) n) in
       let m : are_next x.after.count (items_variables is) ≡ true =
-          subst (λ c. are_next c (items_variables is) ≡ true) (sym x.follows.count) (next-second p.count ks (items_variables is) n) in
+      subst (λ c. are_next c (items_variables is) ≡ true) (sym x.follows.count) (next-second p.count ks (items_variables is) n) in
       let y : MoreRead names is x.after = more-read names is x.after (and-second (is_small_call i.call) _ s) m in
       let w : Writing = each_after comma_space (map (λ (i : Item). spelled_item_call names i.call) is) in
       let l : Listed no_items x.tree y.trees =
-          listed no_items x.tree y.trees (size-fits (length is) (length y.trees) y.size (and-first (nat_le (length (i ∷ is)) 256) _ h)) in
+      listed no_items x.tree y.trees (size-fits (length is) (length y.trees) y.size (and-first (nat_le (length (i ∷ is)) 256) _ h)) in
       let f : Follows (λ ps. spelled_item_call names i.call (w ps)) (ks ++ items_variables is)
-          (λ rest. spell_item false x.tree (spell_more y.trees rest)) p y.after =
+      (λ rest. spell_item false x.tree (spell_more y.trees rest)) p y.after =
       (then) (spelled_item_call names i.call) w ks (items_variables is) (spell_item false x.tree)
-          (spell_more y.trees) p x.after y.after x.follows y.follows in
+      (spell_more y.trees) p x.after y.after x.follows y.follows in
       record {
         front = l.others;
         last = l.end;
@@ -140,8 +140,8 @@ module _ (item-reads : (names : List Text) (call : Call) (p : Position) → is_s
             follows-as (spelled_items names (i ∷ is)) (items_variables (i ∷ is)) _ (spell_list l.others l.end) p y.after l.terminals f;
         same = λ final g v.
             let e : item_with (by_text g final) (item_value x.tree) ≡ item_with (by_text g names) i =
-                x.same final g (grows-on x.after.names y.after.names final y.follows.grows v) in
+            x.same final g (grows-on x.after.names y.after.names final y.follows.grows v) in
             let o : items_with (by_text g final) (map item_value y.trees) ≡ items_with (by_text g names) is = y.same final g v in
             ap (items_with (by_text g final)) l.values ∙ ap (λ z. z ∷ items_with (by_text g final) (map item_value y.trees)) e
-                ∙ ap (λ zs. item_with (by_text g names) i ∷ zs) o;
+            ∙ ap (λ zs. item_with (by_text g names) i ∷ zs) o;
       }

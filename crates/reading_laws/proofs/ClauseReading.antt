@@ -94,7 +94,7 @@ made-same {s = s} {t = t} {ss = ss} {ts = ts} {gs = gs} {hs = hs} {bs = bs} {ds 
 
 clause-made : (f : ℕ → ℕ) (h : CallTree) (t : TailTree) (n : ℕ) → clause_with f (clause_value (clause_tree h t n))
     ≡ made (string_with f (head_value h).name) (terms_with f (head_value h).args) (items_with f (tail_guard t))
-        (items_with f (tail_body t)) n
+    (items_with f (tail_body t)) n
 clause-made f h no_tail n = refl
 clause-made f h (with_body is i) n = refl
 clause-made f h (with_guard gs g is i) n = refl
@@ -102,7 +102,7 @@ clause-made f h (with_guard gs g is i) n = refl
 clause-same : (f k : ℕ → ℕ) (c : Clause) (h : CallTree) (t : TailTree) → string_with f (head_value h).name ≡ string_with k c.head
     → terms_with f (head_value h).args ≡ terms_with k c.args
     → items_with f (tail_guard t) ≡ items_with k c.guard → items_with f (tail_body t) ≡ items_with k c.body
-        → clause_with f (clause_value (clause_tree h t c.vars)) ≡ clause_with k c
+    → clause_with f (clause_value (clause_tree h t c.vars)) ≡ clause_with k c
 clause-same f k c h t a b d e = clause-made f h t c.vars ∙ made-same c.vars a b d e
 
 pub record TailReads (names : List Text) (guard body : List Item) (p : Position) : Type 0 where
@@ -159,12 +159,12 @@ module _ (parts-read : (names : List Text) (t : Term) (ts : List Term) (p : Posi
         after = d;
         follows =
             (then) (λ ps. string bs ∷ ps) (spelled_arguments names (t ∷ ts)) [] (terms_variables (t ∷ ts))
-                (λ rest. plain (terminal.Str s (string_form bs) p.at) ∷ rest)
+            (λ rest. plain (terminal.Str s (string_form bs) p.at) ∷ rest)
             (λ rest. plain (terminal.RoundOpen a.at)
-                ∷ spells true x.front (spell (over (values x.front)) x.last (plain terminal.RoundClose ∷ rest))) p a d (string-follows p bs)
+            ∷ spells true x.front (spell (over (values x.front)) x.last (plain terminal.RoundClose ∷ rest))) p a d (string-follows p bs)
             (between (terms_spellings names (t ∷ ts)) (terms_variables (t ∷ ts))
-                (λ rest. spells true x.front (spell (over (values x.front)) x.last rest)) signs.round_open signs.round_close
-                (terminal.RoundOpen a.at) terminal.RoundClose a x.after
+            (λ rest. spells true x.front (spell (over (values x.front)) x.last rest)) signs.round_open signs.round_close
+            (terminal.RoundOpen a.at) terminal.RoundClose a x.after
             (round_open-terminal a.at a.count) refl (round_close-terminal x.after.at x.after.count) refl x.follows);
         name_same = λ final g w. string-same names p.names final name g (grows-on b.names x.after.names final x.follows.grows w);
         args_same = x.same;
@@ -186,7 +186,7 @@ module _ (parts-read : (names : List Text) (t : Term) (ts : List Term) (p : Posi
           after = x.after;
           follows =
               (then) (spaced (mark signs.if_sign)) (spelled_items names (i ∷ is)) [] (items_variables (i ∷ is))
-                  (λ rest. plain terminal.If ∷ rest) (spell_list x.front x.last) p a x.after
+              (λ rest. plain terminal.If ∷ rest) (spell_list x.front x.last) p a x.after
               (spaced-follows signs.if_sign terminal.If p (if-terminal (behind_piece p space).at p.count) refl) x.follows;
           guard_same = λ final g w. refl;
           body_same = x.same;
@@ -205,15 +205,15 @@ module _ (parts-read : (names : List Text) (t : Term) (ts : List Term) (p : Posi
           after = y.after;
           follows =
               (then) (spaced (mark signs.if_sign))
-                  (λ ps. spelled_items names (i ∷ is) (spaced (mark signs.bar) (spelled_items names (j ∷ js) ps))) [] (ks ++ ls)
+              (λ ps. spelled_items names (i ∷ is) (spaced (mark signs.bar) (spelled_items names (j ∷ js) ps))) [] (ks ++ ls)
               (λ rest. plain terminal.If ∷ rest)
-                  (λ rest. spell_list x.front x.last (plain terminal.Bar ∷ spell_list y.front y.last rest)) p a y.after
+              (λ rest. spell_list x.front x.last (plain terminal.Bar ∷ spell_list y.front y.last rest)) p a y.after
               (spaced-follows signs.if_sign terminal.If p (if-terminal (behind_piece p space).at p.count) refl)
               ((then) (spelled_items names (i ∷ is)) (λ ps. spaced (mark signs.bar) (spelled_items names (j ∷ js) ps)) ks ls
-                  (spell_list x.front x.last) (λ rest. plain terminal.Bar ∷ spell_list y.front y.last rest) a x.after y.after
+              (spell_list x.front x.last) (λ rest. plain terminal.Bar ∷ spell_list y.front y.last rest) a x.after y.after
               x.follows
               ((then) (spaced (mark signs.bar)) (spelled_items names (j ∷ js)) [] ls (λ rest. plain terminal.Bar ∷ rest)
-                  (spell_list y.front y.last) x.after b y.after
+              (spell_list y.front y.last) x.after b y.after
               (spaced-follows signs.bar terminal.Bar x.after (bar-terminal (behind_piece x.after space).at x.after.count) refl) y.follows));
           guard_same = λ final g w. x.same final g (grows-on b.names y.after.names final y.follows.grows w);
           body_same = y.same;
@@ -227,9 +227,9 @@ module _ (parts-read : (names : List Text) (t : Term) (ts : List Term) (p : Posi
         let ks : List ℕ = terms_variables c.args in
         let ls : List ℕ = items_variables c.guard ++ items_variables c.body in
         let n : are_next p.count (ks ++ ls) ≡ true =
-            subst (λ k. are_next k (ks ++ ls) ≡ true) (sym z) (and-first (are_next 0 (ks ++ ls)) _ numbered) in
+        subst (λ k. are_next k (ks ++ ls) ≡ true) (sym z) (and-first (are_next 0 (ks ++ ls)) _ numbered) in
         let v : count_behind 0 (ks ++ ls) ≡ c.vars =
-            same-number (count_behind 0 (ks ++ ls)) c.vars (and-second (are_next 0 (ks ++ ls)) _ numbered) in
+        same-number (count_behind 0 (ks ++ ls)) c.vars (and-second (are_next 0 (ks ++ ls)) _ numbered) in
         let a1 : Bool = nat_le (length c.args) 64 in
         let a2 : Bool = are_small_terms c.args in
         let a3 : Bool = are_small_items c.guard in
@@ -238,23 +238,23 @@ module _ (parts-read : (names : List Text) (t : Term) (ts : List Term) (p : Posi
         let s3 : a1 && a2 && a3 ≡ true = and-first (a1 && a2 && a3) a4 s4 in
         let s2 : a1 && a2 ≡ true = and-first (a1 && a2) a3 s3 in
         let x : HeadReads names c.head c.args p =
-            head-reads names c.head c.args p (and-second a1 a2 s2) (and-first a1 a2 s2) (next-first p.count ks ls n) in
+        head-reads names c.head c.args p (and-second a1 a2 s2) (and-first a1 a2 s2) (next-first p.count ks ls n) in
         let m : are_next x.after.count ls ≡ true = subst (λ k. are_next k ls ≡ true) (sym x.follows.count) (next-second p.count ks ls n) in
         let y : TailReads names c.guard c.body x.after =
-            tail-reads names c.guard c.body x.after (and-second (a1 && a2) a3 s3) (and-second (a1 && a2 && a3) a4 s4)
-            (and-second (a1 && a2 && a3 && a4) (has_body c.guard c.body) small) m in
+        tail-reads names c.guard c.body x.after (and-second (a1 && a2) a3 s3) (and-second (a1 && a2 && a3) a4 s4)
+        (and-second (a1 && a2 && a3 && a4) (has_body c.guard c.body) small) m in
         let b : Follows (λ ps. spelled_named names c.head c.args (spelled_tail names c.guard c.body ps)) (ks ++ ls)
-            (λ rest. spell_call false x.tree (spell_tail y.tree rest)) p y.after =
+        (λ rest. spell_call false x.tree (spell_tail y.tree rest)) p y.after =
         (then) (spelled_named names c.head c.args) (spelled_tail names c.guard c.body) ks ls (spell_call false x.tree)
-            (spell_tail y.tree) p x.after y.after x.follows y.follows in
+        (spell_tail y.tree) p x.after y.after x.follows y.follows in
         let d : Closes (λ ps. mark signs.dot ∷ ps) [] (λ rest. plain (terminal.Dot c.vars) ∷ rest) y.after
-            (behind_piece y.after (mark signs.dot)) =
+        (behind_piece y.after (mark signs.dot)) =
         dot-closes c.vars y.after (counted y.after.count p.count c.vars (ks ++ ls) b.count z v) in
         let e : Closes (spelled_clause names c) (ks ++ ls)
-            (λ rest. spell_call false x.tree (spell_tail y.tree (plain (terminal.Dot c.vars) ∷ rest))) p
-            (behind_piece y.after (mark signs.dot)) =
+        (λ rest. spell_call false x.tree (spell_tail y.tree (plain (terminal.Dot c.vars) ∷ rest))) p
+        (behind_piece y.after (mark signs.dot)) =
         then-closes (λ ps. spelled_named names c.head c.args (spelled_tail names c.guard c.body ps)) (λ ps. mark signs.dot ∷ ps) (ks ++ ls)
-            (λ rest. spell_call false x.tree (spell_tail y.tree rest)) (λ rest. plain (terminal.Dot c.vars) ∷ rest)
+        (λ rest. spell_call false x.tree (spell_tail y.tree rest)) (λ rest. plain (terminal.Dot c.vars) ∷ rest)
         p y.after (behind_piece y.after (mark signs.dot)) b d in
         record {
           tree = clause_tree x.tree y.tree c.vars;
@@ -267,5 +267,5 @@ module _ (parts-read : (names : List Text) (t : Term) (ts : List Term) (p : Posi
           same = λ final g w.
               let r : Grows x.after.names final = grows-on x.after.names y.after.names final y.follows.grows w in
               clause-same (by_text g final) (by_text g names) c x.tree y.tree (x.name_same final g r) (x.args_same final g r)
-                  (y.guard_same final g w) (y.body_same final g w);
+              (y.guard_same final g w) (y.body_same final g w);
         }

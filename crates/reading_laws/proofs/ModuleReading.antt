@@ -49,7 +49,7 @@ tree-terminals : (o a : Option AttributeTree) (cs : List ClauseTree) (rest : Lis
     → spell_line o (spell_line a (spell_clauses cs rest)) ≡ spell_module (with_clauses (with_line (with_line empty o) a) cs) rest
 tree-terminals o a cs rest =
     line-terminals empty o (spell_line a (spell_clauses cs rest)) ∙ line-terminals (with_line empty o) a (spell_clauses cs rest)
-        ∙ clauses-terminals (with_line (with_line empty o) a) cs rest
+    ∙ clauses-terminals (with_line (with_line empty o) a) cs rest
 
 -- a module with further clauses
 abbrev and_more : Module → List Clause → Module
@@ -60,7 +60,7 @@ clauses-value m [] = ap (λ (l : List Clause). record (module_value m) { clauses
 clauses-value m (c ∷ cs) =
     clauses-value (and_clause m c) cs
     ∙ ap (λ (l : List Clause). record (module_value m) { clauses = l })
-        (append_assoc (module_value m).clauses (clause_value c ∷ []) (map clause_value cs))
+    (append_assoc (module_value m).clauses (clause_value c ∷ []) (map clause_value cs))
 
 clauses-behind : (m : ModuleTree) (cs : List ClauseTree) (v : Module) → module_value m ≡ v
     → module_value (with_clauses m cs) ≡ and_more v (map clause_value cs)
@@ -88,7 +88,7 @@ pub record ModuleReads (names : List Text) (m : Module) (p : Position) : Type 0 
 from-closes : (names : List Text) (m : Module) (p : Position) (tree : ModuleTree) (q : Position)
     → Closes (module_spellings names m) [] (spell_module tree) p q
     → ((final : List Text) (g : Text → ℕ) → Grows q.names final
-        → module_with (by_text g final) (module_value tree) ≡ module_with (by_text g names) m) → ModuleReads names m p
+    → module_with (by_text g final) (module_value tree) ≡ module_with (by_text g names) m) → ModuleReads names m p
 from-closes names m p tree q c h = record {
   tree = tree;
   terminals = sym (c.terminals [] []);
@@ -114,7 +114,7 @@ parts-same None (Some at) f g h n o = absurd (cc)
 module-same : (f k : ℕ → ℕ) (m : Module) (v : Module) (name : Option Sym) (es : Option (List Export)) (cs : List Clause)
     → v ≡ and_more (headed name es) cs
     → name_with f name ≡ name_with k m.name → exports_with f es ≡ exports_with k m.exports
-        → map (clause_with f) cs ≡ map (clause_with k) m.clauses
+    → map (clause_with f) cs ≡ map (clause_with k) m.clauses
     → is_none m.again ≡ true → is_none m.other ≡ true → module_with f v ≡ module_with k m
 unfolding module_with
 module-same f k m v name es cs e a b d n o = ap (module_with f) e ∙ parts-same m.again m.other a b d n o
@@ -122,7 +122,7 @@ module-same f k m v name es cs e a b d n o = ap (module_with f) e ∙ parts-same
 module _ (parts-read : (names : List Text) (t : Term) (ts : List Term) (p : Position) → are_small_terms (t ∷ ts) ≡ true
     → nat_le (length (t ∷ ts)) 64 ≡ true → are_next p.count (terms_variables (t ∷ ts)) ≡ true → PartsRead names t ts p)
     (item-reads : (names : List Text) (call : Call) (p : Position) → is_small_call call ≡ true
-        → are_next p.count (call_variables call) ≡ true → ItemReads names call p) where
+    → are_next p.count (call_variables call) ≡ true → ItemReads names call p) where
   pub clauses-read : (names : List Text) (cs : List Clause) (p : Position) → p.count ≡ 0 → list_all is_readable_clause cs ≡ true
       → ClausesRead names cs p
   clauses-read names [] p z h = record { trees = []; after = p; closes = nothing-closes p z; same = λ final g w. refl }
@@ -137,14 +137,14 @@ module _ (parts-read : (names : List Text) (t : Term) (ts : List Term) (p : Posi
         after = y.after;
         closes =
             closes-on (spelled_clause names c) (λ ps. line_feed ∷ spelled_clauses names cs ps) [] (spell_clause x.tree)
-                (spell_clauses y.trees) p x.after y.after
+            (spell_clauses y.trees) p x.after y.after
             (settled (spelled_clause names c) (clause_variables c) (spell_clause x.tree) p x.after
-                (subst (λ k. are_next k (clause_variables c) ≡ true) (sym z) n) x.closes)
+            (subst (λ k. are_next k (clause_variables c) ≡ true) (sym z) n) x.closes)
             (closes-on (λ ps. line_feed ∷ ps) (spelled_clauses names cs) [] (λ rest. rest) (spell_clauses y.trees) x.after a y.after
-                (line_feed-closes x.after x.closes.count) y.closes);
+            (line_feed-closes x.after x.closes.count) y.closes);
         same = λ final g w.
             ap (λ i. i ∷ map (clause_with (by_text g final)) (map clause_value y.trees))
-                (x.same final g (grows-on x.after.names y.after.names final y.closes.grows w))
+            (x.same final g (grows-on x.after.names y.after.names final y.closes.grows w))
             ∙ ap (λ is. clause_with (by_text g names) c ∷ is) (y.same final g w);
       }
 
@@ -161,19 +161,19 @@ module _ (parts-read : (names : List Text) (t : Term) (ts : List Term) (p : Posi
       let x : NameReads names m.name p = name-reads names m.name p refl in
       let y : ListReads names m.exports x.after = list-reads names m.exports x.after x.closes.count (and-second (a1 && a2) a3 h3) in
       let z : ClausesRead names m.clauses y.after =
-          clauses-read names m.clauses y.after y.closes.count (and-second (a1 && a2 && a3) (list_all is_readable_clause m.clauses) h) in
+      clauses-read names m.clauses y.after y.closes.count (and-second (a1 && a2 && a3) (list_all is_readable_clause m.clauses) h) in
       let t1 : ModuleTree = with_line empty x.line in
       let t2 : ModuleTree = with_line t1 y.line in
       let lines : Writing = λ ps. spelled_exports_line names m.exports (spelled_clauses names m.clauses ps) in
       let c : Closes (λ ps. spelled_name_line names m.name (lines ps)) []
-          (λ rest. spell_line x.line (spell_line y.line (spell_clauses z.trees rest))) p z.after =
+      (λ rest. spell_line x.line (spell_line y.line (spell_clauses z.trees rest))) p z.after =
       closes-on (spelled_name_line names m.name) lines [] (spell_line x.line)
-          (λ rest. spell_line y.line (spell_clauses z.trees rest)) p x.after z.after x.closes
+      (λ rest. spell_line y.line (spell_clauses z.trees rest)) p x.after z.after x.closes
       (closes-on (spelled_exports_line names m.exports) (spelled_clauses names m.clauses) [] (spell_line y.line)
-          (spell_clauses z.trees) x.after y.after z.after y.closes z.closes) in
+      (spell_clauses z.trees) x.after y.after z.after y.closes z.closes) in
       let d : Closes (module_spellings names m) [] (spell_module (with_clauses t2 z.trees)) p z.after =
       closes-as (module_spellings names m) [] (λ rest. spell_line x.line (spell_line y.line (spell_clauses z.trees rest)))
-          (spell_module (with_clauses t2 z.trees)) p z.after (tree-terminals x.line y.line z.trees) c in
+      (spell_module (with_clauses t2 z.trees)) p z.after (tree-terminals x.line y.line z.trees) c in
       from-closes names m p (with_clauses t2 z.trees) z.after d (λ final g w.
       let v : Grows y.after.names final = grows-on y.after.names z.after.names final z.closes.grows w in
       let u : Grows x.after.names final = grows-on x.after.names y.after.names final y.closes.grows v in

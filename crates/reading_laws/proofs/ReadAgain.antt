@@ -78,7 +78,7 @@ terminals-right : (file : Text) (m : Module) (im : IsModule reserved_names file 
 terminals-right file m im e =
     let other = subst (λ (x : Module). is_none x.other ≡ true) (sym im.is.value) (no-other m e) in
     terminals-in-order reserved_names file im.tokens im.cut
-        (read-few im.is.tree (terminals_of form.Module reserved_names file im.tokens) im.is.spelled other)
+    (read-few im.is.tree (terminals_of form.Module reserved_names file im.tokens) im.is.spelled other)
 
 readable : (file : Text) (m : Module) → IsModule reserved_names file m → faults_of m ≡ [] → is_readable m ≡ true
 unfolding is_readable
@@ -86,11 +86,11 @@ readable file m im e =
     let ws : List Terminal = terminals_of form.Module reserved_names file im.tokens in
     let fit = terminals-right file m im e in
     let clauses =
-        subst (λ (x : Module). list_all is_readable_clause x.clauses ≡ true) im.is.value (read-clauses im.is.tree ws im.is.spelled fit) in
+    subst (λ (x : Module). list_all is_readable_clause x.clauses ≡ true) im.is.value (read-clauses im.is.tree ws im.is.spelled fit) in
     let exports = subst (λ (x : Module). are_small_exports x.exports ≡ true) im.is.value (read-exports im.is.tree ws im.is.spelled fit) in
     both (is_none m.again && is_none m.other && are_small_exports m.exports) (list_all is_readable_clause m.clauses)
     (both (is_none m.again && is_none m.other) (are_small_exports m.exports)
-        (both (is_none m.again) (is_none m.other) (no-again m e) (no-other m e)) exports)
+    (both (is_none m.again) (is_none m.other) (no-again m e) (no-other m e)) exports)
     clauses
 
 writable : (file : Text) (m : Module) → IsModule reserved_names file m → faults_of m ≡ []
@@ -120,7 +120,7 @@ reads names m r = module-reads parts item-reads names m reserved_names r
 -- the terminals of the canonical text
 terminals-are : (names : List Text) (m : Module) → is_readable m ≡ true → IsWritable names m
     → terminals_of form.Module reserved_names (module_text names m) (tokens_at 0 (pieces names m))
-        ≡ piece_terminals (position 0 0 reserved_names) (pieces names m)
+    ≡ piece_terminals (position 0 0 reserved_names) (pieces names m)
 terminals-are names m r w =
     ap (λ z. terminals_of form.Module reserved_names z (tokens_at 0 (pieces names m))) (sym (text-is names m))
     ∙ written-terminals reserved_names (pieces names m) (modules_fit names m w) (reads names m r).order

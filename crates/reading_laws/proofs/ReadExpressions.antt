@@ -74,7 +74,7 @@ leaf-read m k n t at rest few h = record {
 
 op-read : {m c : Bool} {k i j n : ℕ} {w : Marked} {x y : Expr} {rest : List Marked} (op : ArithOp) → ReadsOperators m k i n x (w ∷ rest)
     → {more_rest : List Marked} → ReadsOperators c (i + 1) j (count_behind n (expr_variables x)) y more_rest
-        → ReadsOperators m k j n (Op op x y) more_rest
+    → ReadsOperators m k j n (Op op x y) more_rest
 op-read {x = x} {y = y} op a b = record {
   unmarked = a.unmarked;
   counted =
@@ -117,11 +117,11 @@ mutual
       let i : ℕ = product_ops k p in
       let j : ℕ = count_behind n (expr_variables (product_value p)) in
       let a : ReadsOperators m k i n (product_value p) ((product_terminal sign, over_operators i) ∷ spell_factor false (more i) f rest) =
-          read-product p m k n _ few h in
+      read-product p m k n _ few h in
       let g : Sound j (spell_factor false (more i) f rest) = (past (product-passes sign) a.reads).behind in
       let e : more i ≡ i + 1 = one-more i a.reads.behind.0 in
       let b : ReadsOperators false (more i) (factor_ops (more i) f) j (factor_value f) rest =
-          read-factor f false (more i) j rest (subst (λ z. z ≤ 256) (sym e) (below-over i a.reads.behind.0)) g in
+      read-factor f false (more i) j rest (subst (λ z. z ≤ 256) (sym e) (below-over i a.reads.behind.0)) g in
       op-read (product_op sign) a (subst (λ z. ReadsOperators false z (factor_ops (more i) f) j (factor_value f) rest) e b)
 
   pub read-sum : (s : Sum) (m : Bool) (k n : ℕ) (rest : List Marked) → k ≤ 256 → Sound n (spell_sum m k s rest)
@@ -131,9 +131,9 @@ mutual
       let i : ℕ = sum_ops k s in
       let j : ℕ = count_behind n (expr_variables (sum_value s)) in
       let a : ReadsOperators m k i n (sum_value s) ((sum_terminal sign, over_operators i) ∷ spell_product false (more i) p rest) =
-          read-sum s m k n _ few h in
+      read-sum s m k n _ few h in
       let g : Sound j (spell_product false (more i) p rest) = (past (sum-passes sign) a.reads).behind in
       let e : more i ≡ i + 1 = one-more i a.reads.behind.0 in
       let b : ReadsOperators false (more i) (product_ops (more i) p) j (product_value p) rest =
-          read-product p false (more i) j rest (subst (λ z. z ≤ 256) (sym e) (below-over i a.reads.behind.0)) g in
+      read-product p false (more i) j rest (subst (λ z. z ≤ 256) (sym e) (below-over i a.reads.behind.0)) g in
       op-read (sum_op sign) a (subst (λ z. ReadsOperators false z (product_ops (more i) p) j (product_value p) rest) e b)

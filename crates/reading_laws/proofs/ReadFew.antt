@@ -42,10 +42,12 @@ mutual
   few-tree (read_only k at) m rest h = (λ e. not-above k (or-second m (nat_lt 250 k) e), (λ e. refl, h))
   few-tree (nil at) m rest h = (λ e. refl, (λ e. refl, h))
   few-tree (list at ts t) m rest h = (λ e. refl, few-trees ts false _ (few-tree t false (plain terminal.SquareClose ∷ rest) (λ e. refl, h)))
-  few-tree (list_rest at ts t u) m rest h =
-      (λ e. refl, few-trees ts false _
-          (few-tree t false (plain terminal.Bar ∷ spell false u (plain terminal.SquareClose ∷ rest))
-          (λ e. refl, few-tree u false (plain terminal.SquareClose ∷ rest) (λ e. refl, h))))
+  few-tree (list_rest at ts t u) m rest h = (
+    λ e. refl,
+    few-trees ts false _
+        (few-tree t false (plain terminal.Bar ∷ spell false u (plain terminal.SquareClose ∷ rest))
+        (λ e. refl, few-tree u false (plain terminal.SquareClose ∷ rest) (λ e. refl, h))),
+  )
   few-tree (braces at ts t) m rest h =
       (λ e. refl, few-trees ts true _ (few-tree t (over (values ts)) (plain terminal.CurlyClose ∷ rest) (λ e. refl, h)))
 
@@ -113,9 +115,11 @@ few-clause (rule d is i n) rest h =
     few-head d (plain terminal.If ∷ spell_list is i (plain (terminal.Dot n) ∷ rest))
     (λ e. refl, few-list is i (plain (terminal.Dot n) ∷ rest) (λ e. refl, h))
 few-clause (guarded d gs g is i n) rest h =
-    few-head d (plain terminal.If ∷ spell_list gs g (plain terminal.Bar ∷ spell_list is i (plain (terminal.Dot n) ∷ rest)))
-    (λ e. refl, few-list gs g (plain terminal.Bar ∷ spell_list is i (plain (terminal.Dot n) ∷ rest))
-        (λ e. refl, few-list is i (plain (terminal.Dot n) ∷ rest) (λ e. refl, h)))
+    few-head d (plain terminal.If ∷ spell_list gs g (plain terminal.Bar ∷ spell_list is i (plain (terminal.Dot n) ∷ rest))) (
+      λ e. refl,
+      few-list gs g (plain terminal.Bar ∷ spell_list is i (plain (terminal.Dot n) ∷ rest))
+          (λ e. refl, few-list is i (plain (terminal.Dot n) ∷ rest) (λ e. refl, h)),
+    )
 
 few-spec : (s : SpecTree) (rest : List Marked) → Few rest → Few (spell_spec s rest)
 few-spec (spec s form at d i i_at) rest h = (λ e. refl, (λ e. refl, (λ e. refl, h)))
@@ -141,9 +145,20 @@ few-module (and_clause m c) rest g h = few-module m _ g (few-clause c rest h)
 few-module (and_attribute m (module_name o b s form at n)) rest g h =
     few-module m _ g (λ e. refl, (λ e. refl, (λ e. refl, (λ e. refl, (λ e. refl, (λ e. refl, h))))))
 few-module (and_attribute m (export_list o b q es n)) rest g h =
-    few-module m _ g (λ e. refl, (λ e. refl,
-        (λ e. refl, (λ e. refl, few-listing es (plain terminal.SquareClose ∷ plain terminal.RoundClose ∷ plain (terminal.Dot n) ∷ rest)
-        (λ e. refl, (λ e. refl, (λ e. refl, h)))))))
+    few-module m _ g (
+      λ e. refl,
+      (
+        λ e. refl,
+        (
+          λ e. refl,
+          (
+            λ e. refl,
+            few-listing es (plain terminal.SquareClose ∷ plain terminal.RoundClose ∷ plain (terminal.Dot n) ∷ rest)
+                (λ e. refl, (λ e. refl, (λ e. refl, h))),
+          ),
+        ),
+      ),
+    )
 few-module (and_attribute m (unknown o form ws n)) rest g h = no-unknown _ (module_value m).other o.dash g
 
 -- a text with no unknown attribute has at most 250 variables in each clause

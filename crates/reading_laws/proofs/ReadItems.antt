@@ -75,17 +75,19 @@ read-item (assigned t e) m n rest h =
     let b : ReadsTerm n (value t) (spell_sum false 0 e rest) = past (λ k. refl) a.1 in
     let c = read-sum e false 0 (count_behind n (term_variables (value t))) rest (omega arith) b.behind in
     let few : nat_le (operators_of (sum_value e)) 256 ≡ true =
-        few-operators (sum_ops 0 e) (operators_of (sum_value e)) (omega (arith, c.counted)) c.few in
+    few-operators (sum_ops 0 e) (operators_of (sum_value e)) (omega (arith, c.counted)) c.few in
     (a.0, reads-as (λ g. and-both (is_small_term (value t) && is_small_expr (sum_value e)) _ g few) (λ g. g) refl (two-read b c.reads))
 read-item (compared d op e) m n rest h =
     let a = read-sum d m 0 n (plain (terminal.Compare op) ∷ spell_sum false (sum_ops 0 d) e rest) (omega arith) h in
     let b : ReadsExpr n (sum_value d) (spell_sum false (sum_ops 0 d) e rest) = past (λ k. refl) a.reads in
     let c = read-sum e false (sum_ops 0 d) (count_behind n (expr_variables (sum_value d))) rest a.few b.behind in
     let few : nat_le (operators_of (sum_value d) + operators_of (sum_value e)) 256 ≡ true =
-        few-operators (sum_ops (sum_ops 0 d) e) (operators_of (sum_value d) + operators_of (sum_value e))
-        (omega (arith, a.counted, c.counted)) c.few in
-    (a.unmarked, reads-as (λ g. and-both (is_small_expr (sum_value d) && is_small_expr (sum_value e)) _ g few) (λ g. g) refl
-        (two-read b c.reads))
+    few-operators (sum_ops (sum_ops 0 d) e) (operators_of (sum_value d) + operators_of (sum_value e))
+    (omega (arith, a.counted, c.counted)) c.few in (
+      a.unmarked,
+      reads-as (λ g. and-both (is_small_expr (sum_value d) && is_small_expr (sum_value e)) _ g few) (λ g. g) refl
+          (two-read b c.reads),
+    )
 
 -- ---- lists of items
 
@@ -97,16 +99,16 @@ one-item-read : {n : ℕ} (is : List Item) (i : Item) {more rest : List Marked} 
     → ReadsCall (count_behind n (items_variables is)) i.call rest → ReadsItems n (is ++ i ∷ []) rest
 one-item-read is i a b =
     reads-same (all-last (λ (j : Item). is_small_call j.call) is i) (all-last (λ (j : Item). is_writable_call j.call) is i)
-        (each-last (λ (j : Item). call_variables j.call) is i) (two-read a b)
+    (each-last (λ (j : Item). call_variables j.call) is i) (two-read a b)
 
 pub read-items : (is : ItemTrees) (n : ℕ) (rest : List Marked) → Sound n (spell_items is rest) → ReadsItems n (item_values is) rest
 read-items no_items n rest h = record { is_small = refl; is_writable = refl; in_order = refl; behind = h }
 read-items (and_item is i) n rest h =
     let a : ReadsItems n (item_values is) (spell_item (over_items (item_values is)) i (plain terminal.Comma ∷ rest)) =
-        read-items is n _ h in
+    read-items is n _ h in
     let b =
-        read-item i (over_items (item_values is)) (count_behind n (items_variables (item_values is)))
-        (plain terminal.Comma ∷ rest) a.behind in
+    read-item i (over_items (item_values is)) (count_behind n (items_variables (item_values is)))
+    (plain terminal.Comma ∷ rest) a.behind in
     past (λ k. refl) (one-item-read (item_values is) (item_value i) a b.1)
 
 items-fit : (is : List Item) (i : Item) → over_items is ≡ false → nat_le (length (is ++ i ∷ [])) 256 ≡ true
@@ -115,10 +117,10 @@ items-fit is i h = grind (arith, nat_tests, length-append)
 -- one item or more, and at most 256
 pub read-list : (is : ItemTrees) (i : ItemTree) (n : ℕ) (rest : List Marked) → Sound n (spell_list is i rest)
     → Reads n (are_small_items (item_values is ++ item_value i ∷ [])) (are_writable_items (item_values is ++ item_value i ∷ []))
-        (items_variables (item_values is ++ item_value i ∷ [])) rest
+    (items_variables (item_values is ++ item_value i ∷ [])) rest
 read-list is i n rest h =
     let all : List Item = item_values is ++ item_value i ∷ [] in
     let a : ReadsItems n (item_values is) (spell_item (over_items (item_values is)) i rest) = read-items is n _ h in
     let b = read-item i (over_items (item_values is)) (count_behind n (items_variables (item_values is))) rest a.behind in
     reads-as (λ g. and-both (nat_le (length all) 256) (list_all (λ (j : Item). is_small_call j.call) all)
-        (items-fit (item_values is) (item_value i) b.0) g) (λ g. g) refl (one-item-read (item_values is) (item_value i) a b.1)
+    (items-fit (item_values is) (item_value i) b.0) g) (λ g. g) refl (one-item-read (item_values is) (item_value i) a b.1)

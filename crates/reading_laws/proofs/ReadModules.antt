@@ -52,11 +52,11 @@ ReadsClause c rest = Reads 0 (is_small_clause c) (is_writable_clause c) (clause_
 parts-read : (c : Clause) {first second rest : List Marked} → ReadsArguments 0 c.args first
     → ReadsItemList (count_behind 0 (terms_variables c.args)) c.guard second
     → ReadsItemList (count_behind (count_behind 0 (terms_variables c.args)) (items_variables c.guard)) c.body rest
-        → has_body c.guard c.body ≡ true → ReadsClause c rest
+    → has_body c.guard c.body ≡ true → ReadsClause c rest
 parts-read c a g b e =
     let s : Bool = nat_le (length c.args) 64 && are_small_terms c.args in
     reads-as (λ h. and-both (s && are_small_items c.guard && are_small_items c.body) (has_body c.guard c.body)
-        (and-assoc s (are_small_items c.guard) (are_small_items c.body) ∙ h) e) (λ h. h) refl (two-read a (two-read g b))
+    (and-assoc s (are_small_items c.guard) (are_small_items c.body) ∙ h) e) (λ h. h) refl (two-read a (two-read g b))
 
 guarded-body : (gs : List Item) (g : Item) (is : List Item) (i : Item) → has_body (gs ++ g ∷ []) (is ++ i ∷ []) ≡ true
 guarded-body [] g [] i = refl
@@ -79,9 +79,9 @@ read-parts (rule h is i n) rest s =
 read-parts (guarded h gs g is i n) rest s =
     let c : Clause = clause_value (guarded h gs g is i n) in
     let a : ReadsArguments 0 c.args (spell_list gs g (plain terminal.Bar ∷ spell_list is i (plain (terminal.Dot n) ∷ rest))) =
-        past (λ k. refl) (read-head h 0 _ s) in
+    past (λ k. refl) (read-head h 0 _ s) in
     let b : ReadsItemList (count_behind 0 (terms_variables c.args)) c.guard (spell_list is i (plain (terminal.Dot n) ∷ rest)) =
-        past (λ k. refl) (read-list gs g _ _ a.behind) in
+    past (λ k. refl) (read-list gs g _ _ a.behind) in
     parts-read c a b (read-list is i _ _ b.behind) (guarded-body (item_values gs) (item_value g) (item_values is) (item_value i))
 
 same-number : (i j : ℕ) → nat_eq i j ≡ true → nat_eq j i ≡ true
@@ -98,7 +98,7 @@ read-clause t rest s =
     let c : Clause = clause_value t in
     let a : ReadsClause c (plain (terminal.Dot c.vars) ∷ rest) = read-parts t rest s in
     let e : nat_eq (count_behind 0 (clause_variables c)) c.vars ≡ true =
-        same-number c.vars (count_behind 0 (clause_variables c)) a.behind.1 in
+    same-number c.vars (count_behind 0 (clause_variables c)) a.behind.1 in
     record {
       readable =
           and-both (is_small_clause c) (is_numbered c) a.is_small
@@ -234,4 +234,4 @@ pub read-writable : (tree : ModuleTree) (ws : List Terminal) → spell_module_te
 read-writable tree ws e h =
     let m : Module = module_value tree in
     and-both (are_writable_exports m.exports) (list_all is_writable_clause m.clauses) (small-writable m.exports (exports-small tree))
-        (read-text tree ws e h).writable
+    (read-text tree ws e h).writable

@@ -24,20 +24,20 @@ listed-small : (ts : List Term) (r : Term) → is_small_term (listed ts r) ≡ (
 listed-small [] r = refl
 listed-small (t ∷ ts) r =
     small-cons t (listed ts r) ∙ (ap (λ b. is_small_term t && b) (listed-small ts r)
-        ∙ sym (and-assoc (is_small_term t) (are_small_terms ts) (is_small_term r)))
+    ∙ sym (and-assoc (is_small_term t) (are_small_terms ts) (is_small_term r)))
 
 listed-writable : (ts : List Term) (r : Term) → is_writable_term (listed ts r) ≡ (list_all is_writable_term ts && is_writable_term r)
 listed-writable [] r = refl
 listed-writable (t ∷ ts) r =
     writable-cons t (listed ts r) ∙ (ap (λ b. is_writable_term t && b) (listed-writable ts r)
-        ∙ sym (and-assoc (is_writable_term t) (list_all is_writable_term ts) (is_writable_term r)))
+    ∙ sym (and-assoc (is_writable_term t) (list_all is_writable_term ts) (is_writable_term r)))
 
 listed-variables : (ts : List Term) (r : Term) → term_variables (listed ts r) ≡ terms_variables ts ++ term_variables r
 listed-variables [] r = refl
 listed-variables (t ∷ ts) r =
     variables-cons t (listed ts r)
-        ∙ (ap (λ l. term_variables t ++ l) (listed-variables ts r)
-        ∙ sym (append_assoc (term_variables t) (terms_variables ts) (term_variables r)))
+    ∙ (ap (λ l. term_variables t ++ l) (listed-variables ts r)
+    ∙ sym (append_assoc (term_variables t) (terms_variables ts) (term_variables r)))
 
 -- a list of these elements and this rest
 list-read : {n : ℕ} (ts : List Term) (r : Term) {more rest : List Marked} → ReadsTerms n ts more
@@ -81,8 +81,8 @@ call-read : {n : ℕ} (s : Sym) (ts : List Term) {rest : List Marked} → nat_le
 call-read s ts few a =
     reads-as
     (λ h. small-tuple (Str s ∷ ts)
-        ∙ and-both (parts_fit (map size_of (Str s ∷ ts))) (are_small_terms (Str s ∷ ts)) (string-parts s ts few)
-        (and-both (is_small_term (Str s)) (are_small_terms ts) (small-str s) h))
+    ∙ and-both (parts_fit (map size_of (Str s ∷ ts))) (are_small_terms (Str s ∷ ts)) (string-parts s ts few)
+    (and-both (is_small_term (Str s)) (are_small_terms ts) (small-str s) h))
     (λ h. writable-tuple (Str s ∷ ts) ∙ and-both (is_writable_term (Str s)) (list_all is_writable_term ts) (writable-str s) h)
     (variables-tuple (Str s ∷ ts) ∙ ap (λ l. l ++ terms_variables ts) (variables-str s))
     a
@@ -102,7 +102,7 @@ braces-read : {n : ℕ} (ts : List Term) (t : Term) {rest : List Marked} → nat
 braces-read ts t few a =
     reads-as
     (λ h. small-tuple (ts ++ t ∷ [])
-        ∙ and-both (parts_fit (map size_of (ts ++ t ∷ []))) (are_small_terms (ts ++ t ∷ [])) (braced-parts ts t few) h)
+    ∙ and-both (parts_fit (map size_of (ts ++ t ∷ []))) (are_small_terms (ts ++ t ∷ [])) (braced-parts ts t few) h)
     (λ h. writable-tuple (ts ++ t ∷ []) ∙ h)
     (variables-tuple (ts ++ t ∷ []))
     a
@@ -133,17 +133,23 @@ variable-read n k rest h g = record {
 mutual
   -- the terminals of a tree say that it is not one too many, and what its term is
   pub read-tree : (t : Tree) (m : Bool) (n : ℕ) (rest : List Marked) → Sound n (spell m t rest) → (m ≡ false) × ReadsTerm n (value t) rest
-  read-tree (int i at) m n rest h =
-      (h.0, reads-same (small-int i) (writable-int i) (variables-int i)
-      (record { is_small = refl; is_writable = h.1; in_order = refl; behind = h.2 }))
-  read-tree (call (name_alone s form at)) m n rest h =
-      (h.0, reads-same (small-str s) (writable-str s) (variables-str s)
-      (record { is_small = refl; is_writable = refl; in_order = refl; behind = h.2 }))
+  read-tree (int i at) m n rest h = (
+    h.0,
+    reads-same (small-int i) (writable-int i) (variables-int i)
+        (record { is_small = refl; is_writable = h.1; in_order = refl; behind = h.2 }),
+  )
+  read-tree (call (name_alone s form at)) m n rest h = (
+    h.0,
+    reads-same (small-str s) (writable-str s) (variables-str s)
+        (record { is_small = refl; is_writable = refl; in_order = refl; behind = h.2 }),
+  )
   read-tree (call (with_arguments s form at o ts t)) m n rest h =
       let a : ReadsTerms n (values ts) (spell (over (values ts)) t (plain terminal.RoundClose ∷ rest)) = read-trees ts true n _ h.2.2 in
-      let b = read-tree t (over (values ts)) (count_behind n (terms_variables (values ts))) (plain terminal.RoundClose ∷ rest) a.behind in
-      (h.0, call-read s (values ts ++ value t ∷ []) (arguments-fit (values ts) (value t) b.0)
-          (past (λ k. refl) (last-read (values ts) (value t) a b.1)))
+      let b = read-tree t (over (values ts)) (count_behind n (terms_variables (values ts))) (plain terminal.RoundClose ∷ rest) a.behind in (
+        h.0,
+        call-read s (values ts ++ value t ∷ []) (arguments-fit (values ts) (value t) b.0)
+            (past (λ k. refl) (last-read (values ts) (value t) a b.1)),
+      )
   read-tree (variable k at) m n rest h =
       (or-first m (nat_lt 250 k) h.0, reads-same (small-var k) (writable-var k) (variables-var k) (variable-read n k rest h.1 h.2))
   read-tree (read_only k at) m n rest h =
@@ -156,14 +162,14 @@ mutual
       (h.0, list-read (values ts ++ value t ∷ []) Nil c (nil-read _ rest c.behind))
   read-tree (list_rest at ts t u) m n rest h =
       let a : ReadsTerms n (values ts) (spell false t (plain terminal.Bar ∷ spell false u (plain terminal.SquareClose ∷ rest))) =
-          read-trees ts false n _ h.2 in
+      read-trees ts false n _ h.2 in
       let b =
-          read-tree t false (count_behind n (terms_variables (values ts)))
-          (plain terminal.Bar ∷ spell false u (plain terminal.SquareClose ∷ rest)) a.behind in
+      read-tree t false (count_behind n (terms_variables (values ts)))
+      (plain terminal.Bar ∷ spell false u (plain terminal.SquareClose ∷ rest)) a.behind in
       let c : ReadsTerms n (values ts ++ value t ∷ []) (spell false u (plain terminal.SquareClose ∷ rest)) =
-          past (λ k. refl) (last-read (values ts) (value t) a b.1) in
+      past (λ k. refl) (last-read (values ts) (value t) a b.1) in
       let d =
-          read-tree u false (count_behind n (terms_variables (values ts ++ value t ∷ []))) (plain terminal.SquareClose ∷ rest) c.behind in
+      read-tree u false (count_behind n (terms_variables (values ts ++ value t ∷ []))) (plain terminal.SquareClose ∷ rest) c.behind in
       (h.0, list-read (values ts ++ value t ∷ []) (value u) c (past (λ k. refl) d.1))
   read-tree (braces at ts t) m n rest h =
       let a : ReadsTerms n (values ts) (spell (over (values ts)) t (plain terminal.CurlyClose ∷ rest)) = read-trees ts true n _ h.2 in

@@ -38,7 +38,7 @@ variable_by-names : (e : Env) (t : Text) (o : Option ℕ) → AreWritableNames e
 variable_by-names e t (Some i) h = h
 variable_by-names e t None h =
     by_test (λ (b : Env). AreWritableNames b.names) (nat_lt (length e.variables) 250)
-        (env e.names (e.variables ++ record { text = t; name = None } ∷ [])) e (λ g. h) (λ g. h)
+    (env e.names (e.variables ++ record { text = t; name = None } ∷ [])) e (λ g. h) (λ g. h)
 
 variable-names : (e : Env) (t : Text) → AreWritableNames e.names → AreWritableNames (with_variable form.Module e t).names
 unfolding with_variable

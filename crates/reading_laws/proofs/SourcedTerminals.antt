@@ -92,8 +92,8 @@ mark-steps vs at m l =
     choose (m == signs.dot)
     (λ h. subst (λ k. Steps vs (mark_terminal at (length vs) k) (behind_mark form.Module k vs)) (is-dot m h) (dot-steps vs at))
     (λ h. let p : (terminal_fits (length vs) (mark_terminal at (length vs) m) ≡ true)
-        × (count_after (length vs) (mark_terminal at (length vs) m) ≡ length vs) = plain-fits (length vs) _
-        (mark-plain at (length vs) m h) in
+    × (count_after (length vs) (mark_terminal at (length vs) m) ≡ length vs) = plain-fits (length vs) _
+    (mark-plain at (length vs) m h) in
     subst (Steps vs (mark_terminal at (length vs) m)) (sym (passed (m == signs.dot) [] vs vs h refl)) (p.0, p.1, l))
 
 known-next : (n i : ℕ) → n ≤ 250 → i < n → is_next n (i + 1) ≡ true
@@ -121,7 +121,7 @@ le-limit n h = grind (arith, nat_tests)
 known-within : (vs : List Variable) (t : Text) (i : ℕ) (v : Variable) → known vs t ≡ Some i → i < length vs
 known-within vs t i v =
     by_test (λ o. o ≡ Some i → i < length vs) (bytes_eq t (codes "_")) None (position (λ (v : Variable). bytes_eq v.text t) vs)
-        (λ h e. absurd (cc))
+    (λ h e. absurd (cc))
     (λ h e. (position-Some (λ (v : Variable). bytes_eq v.text t) vs i v e).0)
 
 -- the variable that is put last
@@ -166,7 +166,7 @@ terminals-fit e (x ∷ ls) s l f =
     let h : Steps e.variables w b.variables = terminal-steps e x.at x.text x.kind s.0 l (and-first (is_few w) _ f) in
     both (terminal_fits (length e.variables) w) _ h.0
     (subst (λ n. terminals_fit n (terminals_from form.Module b ls) ≡ true) (sym h.1)
-        (terminals-fit b ls s.2 h.2 (and-second (is_few w) _ f)))
+    (terminals-fit b ls s.2 h.2 (and-second (is_few w) _ f)))
 
 -- the terminals of a text are in order, where no variable is one of too many
 pub terminals-in-order : (ns : List Text) (z : Text) (ts : List Token) → tokens_of z ≡ Ok ts

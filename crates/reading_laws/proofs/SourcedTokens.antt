@@ -45,7 +45,7 @@ word-is_line (b ∷ z) =
     let n : ℕ = leading class.Word z in
     let e : 1 + n ≡ suc n = omega arith in
     subst (λ m. is_line (take (cond (is_in class.Word b) m 0) (b ∷ z)) ≡ true) (sym e)
-        (one-more (is_in class.Word b) b n z (word-no_feed b) (word-is_line z))
+    (one-more (is_in class.Word b) b n z (word-no_feed b) (word-is_line z))
 
 -- ---- quoted strings on one line
 
@@ -82,7 +82,7 @@ closing-lined q at end true (b ∷ z) n s e =
 closing-lined q at end false (b ∷ z) n s e =
     by_test (λ o. o ≡ Some end → Lined at (b ∷ z) end) (b == 10) None _ (λ h f. absurd (cc))
     (λ h. by_test (λ o. o ≡ Some end → Lined at (b ∷ z) end) (b == q && not (slice_index z 0 == q)) (Some (at + 1))
-        (closing q (b == q) (at + 1) z)
+    (closing q (b == q) (at + 1) z)
     (λ g f. lined-here at b end z (no_feed b h) f)
     (λ g f. lined-cons at b end z (no_feed b h) (closing-lined q (at + 1) end (b == q) z n (goes-on (b == q) (slice_index z 0 == q) g) f)))
     e
@@ -92,12 +92,12 @@ without_quotes-is_line : (q : ℕ) (second : Bool) (z : Text) → is_line z ≡ 
 without_quotes-is_line q second [] h = refl
 without_quotes-is_line q true (b ∷ z) h =
     both (not (b == 10)) (is_line (without_quotes q false z)) (and-first (not (b == 10)) _ h)
-        (without_quotes-is_line q false z (and-second (not (b == 10)) _ h))
+    (without_quotes-is_line q false z (and-second (not (b == 10)) _ h))
 without_quotes-is_line q false (b ∷ z) h =
     by_test (λ w. is_line w ≡ true) (b == q) (without_quotes q true z) (b ∷ without_quotes q false z)
     (λ g. without_quotes-is_line q true z (and-second (not (b == 10)) _ h))
     (λ g. both (not (b == 10)) (is_line (without_quotes q false z)) (and-first (not (b == 10)) _ h)
-        (without_quotes-is_line q false z (and-second (not (b == 10)) _ h)))
+    (without_quotes-is_line q false z (and-second (not (b == 10)) _ h)))
 
 pub unquoted-is_line : (z : Text) → is_line z ≡ true → is_line (unquoted z) ≡ true
 unquoted-is_line [] h = refl
@@ -134,7 +134,7 @@ quoted-sound : (b : ℕ) (z : Text) → (b == 39 || b == 34) ≡ true → IsSoun
 unfolding quoted
 quoted-sound b z h =
     quoted_by-sound b z (closing b false 1 z) (quote-no_feed b h)
-        (λ end. closing-lined b 1 end false z (quote-no_feed b h) (λ g. absurd (cc)))
+    (λ end. closing-lined b 1 end false z (quote-no_feed b h) (λ g. absurd (cc)))
 
 signed-is_int : (m : Bool) (v : ℕ) → fits m v ≡ true → is_int (with_sign m v) ≡ true
 signed-is_int false v h = grind (arith, nat_tests)
@@ -144,7 +144,7 @@ signed-is_int true (suc v) h = grind (arith, nat_tests)
 number_by-sound : (z : Text) (k : ℕ) (m : Bool) (v : ℕ) → IsSoundPiece z (number_piece (option_map (λ n. (n, k)) (int_of m v)))
 number_by-sound z k m v =
     by_test (λ o. IsSoundPiece z (number_piece (option_map (λ n. (n, k)) o))) (fits m v) (Some (with_sign m v)) None
-        (λ h. signed-is_int m v h) (λ h. tt)
+    (λ h. signed-is_int m v h) (λ h. tt)
 
 number-sound : (z : Text) → IsSoundPiece z (number_piece (number z))
 unfolding number

@@ -18,8 +18,8 @@ use Rattle.reading_laws.specs.Variables.{are_next, term_variables, expr_variable
 use Rattle.reading_laws.specs.Readable.{is_small_term, small_expr_step, is_small_expr, operators_step, operators_of}
 use Rattle.reading_laws.specs.Alike.{term_with, expr_with_step, expr_with, by_text}
 use Rattle.reading_laws.proofs.Following.{Follows, grows-on, next-first, TermReads}
-use Rattle.reading_laws.proofs.TreePieces.{and-true, chain, respelled, counted-last, mark-round_open, mark-round_close}
-use Rattle.reading_laws.proofs.TreeTerms.{reterminaled, next-behind, term-reads}
+use Rattle.reading_laws.proofs.TreePieces.{rewritten, next-behind, and-true, chain, respelled, counted-last, mark-round_open, mark-round_close}
+use Rattle.reading_laws.proofs.TreeTerms.{term-reads}
 use Rattle.reading_laws.proofs.TreeOperators.{SumReads, ProductReads, add-reads, sub-reads, mul-reads, div-reads, mod-reads, one-more, not-over-operators}
 use Rattle.fcp_text.specs.Signs as signs
 
@@ -150,7 +150,7 @@ module _ (names : List Text) where
         tree = only (one (leaf r.tree));
         after = r.after;
         follows =
-            reterminaled (expr_spellings names (Leaf t at)) (expr_variables (Leaf t at)) (written-leaf t at).alone
+            rewritten (expr_spellings names (Leaf t at)) (expr_variables (Leaf t at)) (written-leaf t at).alone
             (variables-leaf t at) r.follows;
         ops = behind-none n (operators_of (Leaf t at)) (operators-leaf t at);
         same = λ final g grows. same-leaf t (value r.tree) at (first_of r.tree) (by_text g final) (by_text g names) (r.same final g grows);
@@ -163,7 +163,7 @@ module _ (names : List Text) where
         tree = leaf r.tree;
         after = r.after;
         follows =
-            reterminaled (operand_spellings (Leaf t at)) (expr_variables (Leaf t at)) (written-leaf t at).as_operand
+            rewritten (operand_spellings (Leaf t at)) (expr_variables (Leaf t at)) (written-leaf t at).as_operand
             (variables-leaf t at) r.follows;
         ops = behind-none n (operators_of (Leaf t at)) (operators-leaf t at);
         same = λ final g grows. same-leaf t (value r.tree) at (first_of r.tree) (by_text g final) (by_text g names) (r.same final g grows);
@@ -191,7 +191,7 @@ module _ (names : List Text) where
       → are_next p.count (expr_variables (Op op x y)) ≡ true → OperandReads x n p
   left-reads op x y first n p b h =
       first n p (up-to (n + operators_of x) 256
-          (few-left n (operators_of x) (operators_of y) (operators_of (Op op x y)) (operators-op op x y) b))
+      (few-left n (operators_of x) (operators_of y) (operators_of (Op op x y)) (operators-op op x y) b))
       (next-first p.count (expr_variables x) (expr_variables y) (subst (λ ks. are_next p.count ks ≡ true) (variables-op op x y) h))
 
   both-read : (op : ArithOp) (x y : Expr) → AsOperand y → (n : ℕ) (p q : Position) (w : Terminal) → n + operators_of (Op op x y) ≤ 256
@@ -199,9 +199,9 @@ module _ (names : List Text) where
       → (l : OperandReads x n p) → Follows (spelled_operator op) [] (λ rest. plain w ∷ rest) l.after q → OperationReads op x y n p w
   both-read op x y second n p q w b h l sign =
       let i : are_next p.count (expr_variables x ++ expr_variables y) ≡ true =
-          subst (λ ks. are_next p.count ks ≡ true) (variables-op op x y) h in
+      subst (λ ks. are_next p.count ks ≡ true) (variables-op op x y) h in
       let under : n + operators_of x < 256 =
-          few-left n (operators_of x) (operators_of y) (operators_of (Op op x y)) (operators-op op x y) b in
+      few-left n (operators_of x) (operators_of y) (operators_of (Op op x y)) (operators-op op x y) b in
       let k : more (factor_ops n l.tree) ≡ n + operators_of x + 1 = next-number n (operators_of x) (factor_ops n l.tree) l.ops under in
       let c : over_operators (factor_ops n l.tree) ≡ false = none-over n (operators_of x) (factor_ops n l.tree) l.ops under in
       let r : OperandReads y (more (factor_ops n l.tree)) q =
@@ -223,7 +223,7 @@ module _ (names : List Text) where
         same = λ final g grows.
             let behind : Grows q.names final = grows-on q.names r.after.names final r.follows.grows grows in
             same-op op x y (factor_value l.tree) (factor_value r.tree) (by_text g final) (by_text g names)
-                (l.same final g (grows-on l.after.names q.names final sign.grows behind)) (r.same final g grows);
+            (l.same final g (grows-on l.after.names q.names final sign.grows behind)) (r.same final g grows);
       }
 
   sum-alone : (op : ArithOp) (x y : Expr) → ((q : Position) → SumReads op q) → AsOperand x → AsOperand y → Alone (Op op x y)
@@ -235,7 +235,7 @@ module _ (names : List Text) where
         tree = plus (only (one o.left)) s.tree (one o.right);
         after = o.after;
         follows =
-            reterminaled (expr_spellings names (Op op x y)) (expr_variables (Op op x y)) (written-op op x y).alone
+            rewritten (expr_spellings names (Op op x y)) (expr_variables (Op op x y)) (written-op op x y).alone
             (variables-op op x y) o.follows;
         ops = o.ops;
         same =
@@ -248,12 +248,12 @@ module _ (names : List Text) where
       let l : OperandReads x n p = left-reads op x y first n p b h in
       let s : ProductReads op l.after = signs l.after in
       let o : OperationReads op x y n p (product_terminal s.tree) =
-          both-read op x y second n p s.after (product_terminal s.tree) b h l s.follows in
+      both-read op x y second n p s.after (product_terminal s.tree) b h l s.follows in
       record {
         tree = only (times (one o.left) s.tree o.right);
         after = o.after;
         follows =
-            reterminaled (expr_spellings names (Op op x y)) (expr_variables (Op op x y)) (written-op op x y).alone
+            rewritten (expr_spellings names (Op op x y)) (expr_variables (Op op x y)) (written-op op x y).alone
             (variables-op op x y) o.follows;
         ops = o.ops;
         same =
@@ -276,7 +276,7 @@ module _ (names : List Text) where
         tree = group p.at r.tree;
         after = behind_piece r.after (mark signs.round_close);
         follows =
-            reterminaled (operand_spellings (Op op x y)) (expr_variables (Op op x y))
+            rewritten (operand_spellings (Op op x y)) (expr_variables (Op op x y))
             ((written-op op x y).as_operand ∙ ap parenthesized (sym (written-op op x y).alone)) refl
             (counted-last (chain (mark-round_open p) (chain r.follows (mark-round_close r.after))));
         ops = r.ops;

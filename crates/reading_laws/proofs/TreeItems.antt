@@ -23,8 +23,8 @@ use Rattle.reading_laws.specs.Variables.{are_next, term_variables, terms_variabl
 use Rattle.reading_laws.specs.Readable.{is_small_term, are_small_terms, is_small_expr, operators_of, is_small_call}
 use Rattle.reading_laws.specs.Alike.{term_with, call_with, item_with, by_text}
 use Rattle.reading_laws.proofs.Following.{Follows, grows-on, next-first, TermReads, PartsRead, ItemReads}
-use Rattle.reading_laws.proofs.TreePieces.{and-true, chain, counted-last, read_string, string-follows, string-name, mark-round_open, mark-round_close}
-use Rattle.reading_laws.proofs.TreeTerms.{reterminaled, next-behind, term-reads, parts-read}
+use Rattle.reading_laws.proofs.TreePieces.{rewritten, next-behind, and-true, chain, counted-last, read_string, string-follows, string-name, mark-round_open, mark-round_close}
+use Rattle.reading_laws.proofs.TreeTerms.{term-reads, parts-read}
 use Rattle.reading_laws.proofs.TreeOperators.{assign-follows, sign_mark, sign-follows, comparison_mark, comparison-follows, behind_spaced}
 use Rattle.reading_laws.proofs.TreeExpressions.{ExprReads, expr-reads}
 use Rattle.fcp_text.specs.Signs as signs
@@ -67,14 +67,14 @@ module _ (names : List Text) where
       let q : Position = behind_piece p (string x) in
       let both = and-true (nat_le (length (t ∷ ts)) 64) (are_small_terms (t ∷ ts)) small in
       let o : PartsRead names t ts (behind_piece q (mark signs.round_open)) =
-          parts-read names t ts (behind_piece q (mark signs.round_open)) both.1 (at-most (length (t ∷ ts)) 64 both.0) n in
+      parts-read names t ts (behind_piece q (mark signs.round_open)) both.1 (at-most (length (t ∷ ts)) 64 both.0) n in
       record {
         tree = call_item (with_arguments (read_string p x) (string_form x) p.at q.at o.front o.last);
         after = behind_piece o.after (mark signs.round_close);
         follows = counted-last (chain (string-follows p x) (chain (mark-round_open q) (chain o.follows (mark-round_close o.after))));
         same = λ final g grows.
             ap₂ (λ a l. record { at = 0; call = User (record { 0 = g a }) l })
-                (string-name p x final (grows-on q.names o.after.names final o.follows.grows grows)) (o.same final g grows);
+            (string-name p x final (grows-on q.names o.after.names final o.follows.grows grows)) (o.same final g grows);
       }
 
   -- ---- two terms with a sign
@@ -109,12 +109,12 @@ module _ (names : List Text) where
     tree = equal l.tree s r.tree;
     after = r.after;
     follows =
-        reterminaled (spelled_item_call names (sign_call s a b)) (call_variables (sign_call s a b)) (signed-written s a b)
+        rewritten (spelled_item_call names (sign_call s a b)) (call_variables (sign_call s a b)) (signed-written s a b)
         (signed-variables s a b) (chain l.follows (chain (sign-follows s l.after) r.follows));
     same = λ final g grows.
         item-signed (by_text g final) s l.tree r.tree
         ∙ ap₂ (λ x y. record { at = 0; call = sign_call s x y })
-            (l.same final g (before-sign (sign-follows s l.after) r.follows final grows)) (r.same final g grows)
+        (l.same final g (before-sign (sign-follows s l.after) r.follows final grows)) (r.same final g grows)
         ∙ ap (λ c. record { at = 0; call = c }) (sym (with-signed (by_text g names) s a b));
   }
 
@@ -125,7 +125,7 @@ module _ (names : List Text) where
       let l : TermReads names a p = term-reads names a p both.0 (next-first p.count (term_variables a) (term_variables b) n) in
       both-signed s a b p l
       (term-reads names b (behind_spaced l.after (mark (sign_mark s))) both.1
-          (next-behind (term_variables b) (sign-follows s l.after) (next-behind (term_variables b) l.follows n)))
+      (next-behind (term_variables b) (sign-follows s l.after) (next-behind (term_variables b) l.follows n)))
 
   -- ---- expressions
 
@@ -148,7 +148,7 @@ module _ (names : List Text) where
       let l : TermReads names a p = term-reads names a p both.0 (next-first p.count (term_variables a) (expr_variables e) n) in
       both-assigned a e p l
       (expr-reads names e 0 (behind_spaced l.after (mark signs.assign)) both.1 (from-none (operators_of e) 256 all.1)
-          (next-behind (expr_variables e) (assign-follows l.after) (next-behind (expr_variables e) l.follows n)))
+      (next-behind (expr_variables e) (assign-follows l.after) (next-behind (expr_variables e) l.follows n)))
 
   both-compared : (op : CompareOp) (d e : Expr) (p : Position) (l : ExprReads names d 0 p)
       → ExprReads names e (sum_ops 0 l.tree) (behind_spaced l.after (mark (comparison_mark op))) → ItemReads names (Compare op d e) p
@@ -167,11 +167,11 @@ module _ (names : List Text) where
       let all = and-true (is_small_expr d && is_small_expr e) (nat_le (operators_of d + operators_of e) 256) small in
       let both = and-true (is_small_expr d) (is_small_expr e) all.0 in
       let l : ExprReads names d 0 p =
-          expr-reads names d 0 p both.0 (first-of-both (operators_of d) (operators_of e) all.1)
-          (next-first p.count (expr_variables d) (expr_variables e) n) in
+      expr-reads names d 0 p both.0 (first-of-both (operators_of d) (operators_of e) all.1)
+      (next-first p.count (expr_variables d) (expr_variables e) n) in
       both-compared op d e p l
       (expr-reads names e (sum_ops 0 l.tree) (behind_spaced l.after (mark (comparison_mark op))) both.1
-          (behind-left (operators_of d) (operators_of e) (sum_ops 0 l.tree) all.1 l.ops)
+      (behind-left (operators_of d) (operators_of e) (sum_ops 0 l.tree) all.1 l.ops)
       (next-behind (expr_variables e) (comparison-follows op l.after) (next-behind (expr_variables e) l.follows n)))
 
 -- what a small item says has a tree, wherever its variables may stand

@@ -76,30 +76,50 @@ pub record ProductReads (op : ArithOp) (p : Position) : Type 0 where
 
 pub add-reads : (p : Position) → SumReads Add p
 add-reads p =
-    record { tree = add (behind_space p).at; after = behind_spaced p (mark signs.plus);
-    follows = spaced-follows p (mark signs.plus) (mark-plus (behind_space p)); same = refl }
+    record {
+      tree = add (behind_space p).at;
+      after = behind_spaced p (mark signs.plus);
+      follows = spaced-follows p (mark signs.plus) (mark-plus (behind_space p));
+      same = refl;
+    }
 
 pub sub-reads : (p : Position) → SumReads Sub p
 sub-reads p =
-    record { tree = sub (behind_space p).at; after = behind_spaced p (mark signs.minus);
-    follows = spaced-follows p (mark signs.minus) (mark-minus (behind_space p)); same = refl }
+    record {
+      tree = sub (behind_space p).at;
+      after = behind_spaced p (mark signs.minus);
+      follows = spaced-follows p (mark signs.minus) (mark-minus (behind_space p));
+      same = refl;
+    }
 
 pub mul-reads : (p : Position) → ProductReads Mul p
 mul-reads p =
-    record { tree = mul (behind_space p).at; after = behind_spaced p (mark signs.times);
-    follows = spaced-follows p (mark signs.times) (mark-times (behind_space p)); same = refl }
+    record {
+      tree = mul (behind_space p).at;
+      after = behind_spaced p (mark signs.times);
+      follows = spaced-follows p (mark signs.times) (mark-times (behind_space p));
+      same = refl;
+    }
 
 pub div-reads : (p : Position) → ProductReads Div p
 div-reads p =
-    record { tree = div (behind_space p).at; after = behind_spaced p (mark signs.divide);
-    follows = spaced-follows p (mark signs.divide) (mark-divide (behind_space p)); same = refl }
+    record {
+      tree = div (behind_space p).at;
+      after = behind_spaced p (mark signs.divide);
+      follows = spaced-follows p (mark signs.divide) (mark-divide (behind_space p));
+      same = refl;
+    }
 
 -- the name `mod` has a form of its own
 pub mod-reads : (p : Position) → ProductReads Mod p
 mod-reads p =
     let q : Position = behind_space p in
-    record { tree = rem (read_string q (codes "mod")) q.at; after = behind_spaced p (string (codes "mod"));
-        follows = spaced-follows p (string (codes "mod")) (string-follows q (codes "mod")); same = refl }
+    record {
+      tree = rem (read_string q (codes "mod")) q.at;
+      after = behind_spaced p (string (codes "mod"));
+      follows = spaced-follows p (string (codes "mod")) (string-follows q (codes "mod"));
+      same = refl;
+    }
 
 -- ---- their number
 

@@ -21,7 +21,7 @@ use Rattle.text_laws.specs.TermSpellings.{Writing, comma}
 use Rattle.text_laws.specs.SourceSpellings.{spaced, comma_space}
 use Rattle.reading_laws.specs.PieceTerminals.{Position, behind_piece, behind_sign, is_next, in_order, piece_terminals, string_form}
 use Rattle.reading_laws.specs.Variables.{are_next}
-use Rattle.reading_laws.proofs.Following.{Follows, then, grows-same}
+use Rattle.reading_laws.proofs.Following.{Follows, then, grows-same, next-second}
 use Rattle.fcp_text.specs.Signs as signs
 
 -- ---- strings by their numbers
@@ -289,3 +289,13 @@ comma-follows p = mark-comma p
 pub comma_space-follows : (p : Position)
     → Follows comma_space [] (λ rest. plain terminal.Comma ∷ rest) p (behind_space (behind_piece p (mark signs.comma)))
 comma_space-follows p = chain (mark-comma p) (space-follows (behind_piece p (mark signs.comma)))
+
+-- the same pieces and the same variables, written otherwise
+pub rewritten : {w : Writing} {ks : List ℕ} {s : List Marked → List Marked} {p q : Position} (v : Writing) (ls : List ℕ) → v ≡ w
+    → ls ≡ ks → Follows w ks s p q → Follows v ls s p q
+rewritten {w} {ks} {s} {p} {q} v ls e f h = subst (λ x. Follows x ls s p q) (sym e) (counted ls h (sym f))
+
+-- the variables behind others
+pub next-behind : {w : Writing} {ks : List ℕ} {s : List Marked → List Marked} {p q : Position} (ls : List ℕ) → Follows w ks s p q
+    → are_next p.count (ks ++ ls) ≡ true → are_next q.count ls ≡ true
+next-behind {w} {ks} {s} {p} {q} ls f e = subst (λ n. are_next n ls ≡ true) (sym f.count) (next-second p.count ks ls e)

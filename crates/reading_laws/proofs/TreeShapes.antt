@@ -62,8 +62,8 @@ pub small-tuple : (ts : List Term) → is_small_term (Tuple ts) ≡ true → (pa
 unfolding is_small_term
 small-tuple ts e =
     let both =
-        and-true (parts_fit (map size_of ts)) (list_all (λ (t : Size). t.small) (map size_of ts))
-        (ap (λ (s : Size). s.small) (sym (fold-Tuple Size size_step ts)) ∙ e) in
+    and-true (parts_fit (map size_of ts)) (list_all (λ (t : Size). t.small) (map size_of ts))
+    (ap (λ (s : Size). s.small) (sym (fold-Tuple Size size_step ts)) ∙ e) in
     (both.0, sym (each-small ts) ∙ both.1)
 
 pub small-first : (t : Term) (ts : List Term) → are_small_terms (t ∷ ts) ≡ true → is_small_term t ≡ true
@@ -165,7 +165,7 @@ module _ (names : List Text) where
       let a : TermSpelling = term_spelling names t in
       let xs : List TermSpelling = map (term_spelling names) (u ∷ us) in
       tuple-by (t ∷ u ∷ us) (braced (t ∷ u ∷ us))
-          (ap (λ (b : Bool). if b then spelled_call a xs else spelled_in_braces (a ∷ xs)) e ∙ in-braces (t ∷ u ∷ us))
+      (ap (λ (b : Bool). if b then spelled_call a xs else spelled_in_braces (a ∷ xs)) e ∙ in-braces (t ∷ u ∷ us))
 
   string-call : (s : Sym) (x : TermSpelling) (xs : List TermSpelling)
       → spelled_tuple (term_spelling names (Str s) ∷ x ∷ xs)
@@ -177,5 +177,5 @@ module _ (names : List Text) where
   written-call s u us =
       tuple-by (Str s ∷ u ∷ us) (called s (u ∷ us))
       (string-call s (term_spelling names u) (map (term_spelling names) us)
-          ∙ ap (λ l ps. string (name_at names s.0) ∷ mark signs.round_open ∷ parted_by comma l (mark signs.round_close ∷ ps))
-          (map-alone (u ∷ us)))
+      ∙ ap (λ l ps. string (name_at names s.0) ∷ mark signs.round_open ∷ parted_by comma l (mark signs.round_close ∷ ps))
+      (map-alone (u ∷ us)))

@@ -18,21 +18,11 @@ use Rattle.reading_laws.specs.PieceTerminals.{Position, behind_piece, string_for
 use Rattle.reading_laws.specs.Variables.{are_next, term_variables, terms_variables}
 use Rattle.reading_laws.specs.Readable.{size_of, parts_fit, is_small_term, are_small_terms}
 use Rattle.reading_laws.specs.Alike.{term_with, terms_with, by_text}
-use Rattle.reading_laws.proofs.Following.{Follows, grows-on, next-first, next-second, TermReads, PartsRead}
-use Rattle.reading_laws.proofs.TreePieces.{chain, respelled, counted, counted-last, none-follows, read_string, string-follows, string-name, number-follows, variable-follows, mark-round_open, mark-round_close, mark-square_open, mark-square_close, mark-curly_open, mark-curly_close, mark-bar, mark-comma, mark-question}
+use Rattle.reading_laws.proofs.Following.{Follows, grows-on, next-first, TermReads, PartsRead}
+use Rattle.reading_laws.proofs.TreePieces.{chain, rewritten, next-behind, respelled, counted, counted-last, none-follows, read_string, string-follows, string-name, number-follows, variable-follows, mark-round_open, mark-round_close, mark-square_open, mark-square_close, mark-curly_open, mark-curly_close, mark-bar, mark-comma, mark-question}
 use Rattle.reading_laws.proofs.TreeLists.{with-int, with-str, with-nil, with-cons, with-tuple, with-var, with-ro, with-append, with-listed, listed-append, not-over}
 use Rattle.reading_laws.proofs.TreeShapes.{variables-int, variables-str, variables-nil, variables-cons, variables-tuple, variables-var, variables-ro, small-cons, small-tuple, small-first, small-others, StringOrNone, string-or-none, rest_spellings, Written, behind_bar, written-int, written-str, written-nil, written-var, written-ro, written-cons, braced, called, written-one, written-braces, written-call}
 use Rattle.fcp_text.specs.Signs as signs
-
--- the same pieces and the same variables, written otherwise
-pub reterminaled : {w : Writing} {ks : List ℕ} {s : List Marked → List Marked} {p q : Position} (v : Writing) (ls : List ℕ) → v ≡ w
-    → ls ≡ ks → Follows w ks s p q → Follows v ls s p q
-reterminaled {w} {ks} {s} {p} {q} v ls e f h = subst (λ x. Follows x ls s p q) (sym e) (counted ls h (sym f))
-
--- the variables behind others
-pub next-behind : {w : Writing} {ks : List ℕ} {s : List Marked → List Marked} {p q : Position} (ls : List ℕ) → Follows w ks s p q
-    → are_next p.count (ks ++ ls) ≡ true → are_next q.count ls ≡ true
-next-behind {w} {ks} {s} {p} {q} ls f e = subst (λ n. are_next n ls ≡ true) (sym f.count) (next-second p.count ks ls e)
 
 module _ (names : List Text) where
   -- A term as the rest of a list, up to the `]`: it finishes a list of which the front and the last element so far are known.
@@ -45,7 +35,7 @@ module _ (names : List Text) where
         → spell m (finish at front last) rest ≡ (terminal.SquareOpen at, m) ∷ spells false front (spell false last (spelled rest))
     same : (final : List Text) (g : Text → ℕ) → Grows after.names final → (at : ℕ) (front : Trees) (last : Tree)
         → term_with (by_text g final) (value (finish at front last))
-            ≡ listed (terms_with (by_text g final) (values front ++ value last ∷ [])) (term_with (by_text g names) t)
+        ≡ listed (terms_with (by_text g final) (values front ++ value last ∷ [])) (term_with (by_text g names) t)
 
   -- Parts behind others, each behind a comma: those before them are a front and a last one.
   record MoreParts (ts : List Term) (front : Trees) (last : Tree) (p : Position) : Type 0 where
@@ -59,7 +49,7 @@ module _ (names : List Text) where
         ≡ spells true front (spell (over (values front)) last (spelled rest))
     same : (final : List Text) (g : Text → ℕ) → Grows after.names final
         → terms_with (by_text g final) (values all_but_one ++ value last_one ∷ [])
-            ≡ terms_with (by_text g final) (values front ++ value last ∷ []) ++ terms_with (by_text g names) ts
+        ≡ terms_with (by_text g final) (values front ++ value last ∷ []) ++ terms_with (by_text g names) ts
 
   -- ---- terms that are no list
 
@@ -78,7 +68,7 @@ module _ (names : List Text) where
         spelled = λ rest. plain terminal.Bar ∷ spell false r.tree (plain terminal.SquareClose ∷ rest);
         after = behind_piece r.after (mark signs.square_close);
         follows =
-            reterminaled (rest_spellings names t) (term_variables t) (e.as_rest ∙ ap (behind_bar names) (sym e.alone)) refl
+            rewritten (rest_spellings names t) (term_variables t) (e.as_rest ∙ ap (behind_bar names) (sym e.alone)) refl
             (counted-last (chain (mark-bar p) (chain r.follows (mark-square_close r.after))));
         finished = λ at front last m rest. refl;
         same =
@@ -91,7 +81,7 @@ module _ (names : List Text) where
     tree = int n p.at;
     after = behind_piece p (number n);
     follows =
-        reterminaled (term_spellings names (Int n)) (term_variables (Int n)) (written-int names n).alone (variables-int n)
+        rewritten (term_spellings names (Int n)) (term_variables (Int n)) (written-int names n).alone (variables-int n)
         (number-follows p n);
     same = λ final g grows. with-int (by_text g final) n ∙ sym (with-int (by_text g names) n);
   }
@@ -100,11 +90,11 @@ module _ (names : List Text) where
   str-alone s p h =
       let t : Text = name_at names s.0 in
       let f : Follows (λ ps. string t ∷ ps) [] (λ rest. plain (terminal.Str (read_string p t) (string_form t) p.at) ∷ rest) p
-          (behind_piece p (string t)) = string-follows p t in
+      (behind_piece p (string t)) = string-follows p t in
       record {
         tree = call (name_alone (read_string p t) (string_form t) p.at);
         after = behind_piece p (string t);
-        follows = reterminaled (term_spellings names (Str s)) (term_variables (Str s)) (written-str names s).alone (variables-str s) f;
+        follows = rewritten (term_spellings names (Str s)) (term_variables (Str s)) (written-str names s).alone (variables-str s) f;
         same =
             λ final g grows. with-str (by_text g final) (read_string p t) ∙ ap (λ x. Str (record { 0 = g x })) (string-name p t final grows)
             ∙ sym (with-str (by_text g names) s);
@@ -117,7 +107,7 @@ module _ (names : List Text) where
         tree = variable k p.at;
         after = behind_piece p (piece.variable k);
         follows =
-            reterminaled (term_spellings names (Var k)) (term_variables (Var k)) (written-var names k).alone (variables-var k)
+            rewritten (term_spellings names (Var k)) (term_variables (Var k)) (written-var names k).alone (variables-var k)
             (variable-follows p k n);
         same = λ final g grows. with-var (by_text g final) k ∙ sym (with-var (by_text g names) k);
       }
@@ -129,7 +119,7 @@ module _ (names : List Text) where
         tree = read_only k p.at;
         after = behind_piece (behind_piece p (piece.variable k)) (mark signs.question);
         follows =
-            reterminaled (term_spellings names (Ro k)) (term_variables (Ro k)) (written-ro names k).alone (variables-ro k)
+            rewritten (term_spellings names (Ro k)) (term_variables (Ro k)) (written-ro names k).alone (variables-ro k)
             (chain (variable-follows p k n) (mark-question (behind_piece p (piece.variable k))));
         same = λ final g grows. with-ro (by_text g final) k ∙ sym (with-ro (by_text g names) k);
       }
@@ -141,7 +131,7 @@ module _ (names : List Text) where
     tree = nil p.at;
     after = behind_piece (behind_piece p (mark signs.square_open)) (mark signs.square_close);
     follows =
-        reterminaled (term_spellings names Nil) (term_variables Nil) (written-nil names).alone variables-nil
+        rewritten (term_spellings names Nil) (term_variables Nil) (written-nil names).alone variables-nil
         (chain (mark-square_open p) (mark-square_close (behind_piece p (mark signs.square_open))));
     same = λ final g grows. with-nil (by_text g final) ∙ sym (with-nil (by_text g names));
   }
@@ -151,48 +141,48 @@ module _ (names : List Text) where
     finish = list;
     spelled = λ rest. plain terminal.SquareClose ∷ rest;
     after = behind_piece p (mark signs.square_close);
-    follows = reterminaled (rest_spellings names Nil) (term_variables Nil) (written-nil names).as_rest variables-nil (mark-square_close p);
+    follows = rewritten (rest_spellings names Nil) (term_variables Nil) (written-nil names).as_rest variables-nil (mark-square_close p);
     finished = λ at front last m rest. refl;
     same = λ final g grows at front last.
         with-listed (by_text g final) (values front ++ value last ∷ []) Nil
         ∙ ap (listed (terms_with (by_text g final) (values front ++ value last ∷ [])))
-            (with-nil (by_text g final) ∙ sym (with-nil (by_text g names)));
+        (with-nil (by_text g final) ∙ sym (with-nil (by_text g names)));
   }
 
   cons-alone : (h t : Term) → Alone h → AsRest t → Alone (Cons h t)
   cons-alone h t first others p n =
       let m : are_next p.count (term_variables h ++ term_variables t) ≡ true =
-          subst (λ ks. are_next p.count ks ≡ true) (variables-cons h t) n in
+      subst (λ ks. are_next p.count ks ≡ true) (variables-cons h t) n in
       let r : TermReads names h (behind_piece p (mark signs.square_open)) =
-          first (behind_piece p (mark signs.square_open)) (next-first p.count (term_variables h) (term_variables t) m) in
+      first (behind_piece p (mark signs.square_open)) (next-first p.count (term_variables h) (term_variables t) m) in
       let o : RestReads t r.after = others r.after (next-behind (term_variables t) r.follows m) in
       record {
         tree = o.finish p.at none r.tree;
         after = o.after;
         follows =
-            reterminaled (term_spellings names (Cons h t)) (term_variables (Cons h t)) (written-cons names h t).alone (variables-cons h t)
+            rewritten (term_spellings names (Cons h t)) (term_variables (Cons h t)) (written-cons names h t).alone (variables-cons h t)
             (respelled (spell false (o.finish p.at none r.tree)) (chain (mark-square_open p) (chain r.follows o.follows))
-                (o.finished p.at none r.tree false));
+            (o.finished p.at none r.tree false));
         same = λ final g grows.
             o.same final g grows p.at none r.tree
             ∙ ap (λ x. Cons x (term_with (by_text g names) t))
-                (r.same final g (grows-on r.after.names o.after.names final o.follows.grows grows))
+            (r.same final g (grows-on r.after.names o.after.names final o.follows.grows grows))
             ∙ sym (with-cons (by_text g names) h t);
       }
 
   cons-rest : (h t : Term) → Alone h → AsRest t → AsRest (Cons h t)
   cons-rest h t first others p n =
       let m : are_next p.count (term_variables h ++ term_variables t) ≡ true =
-          subst (λ ks. are_next p.count ks ≡ true) (variables-cons h t) n in
+      subst (λ ks. are_next p.count ks ≡ true) (variables-cons h t) n in
       let r : TermReads names h (behind_piece p (mark signs.comma)) =
-          first (behind_piece p (mark signs.comma)) (next-first p.count (term_variables h) (term_variables t) m) in
+      first (behind_piece p (mark signs.comma)) (next-first p.count (term_variables h) (term_variables t) m) in
       let o : RestReads t r.after = others r.after (next-behind (term_variables t) r.follows m) in
       record {
         finish = λ at front last. o.finish at (and front last) r.tree;
         spelled = λ rest. plain terminal.Comma ∷ spell false r.tree (o.spelled rest);
         after = o.after;
         follows =
-            reterminaled (rest_spellings names (Cons h t)) (term_variables (Cons h t)) (written-cons names h t).as_rest (variables-cons h t)
+            rewritten (rest_spellings names (Cons h t)) (term_variables (Cons h t)) (written-cons names h t).as_rest (variables-cons h t)
             (chain (mark-comma p) (chain r.follows o.follows));
         finished = λ at front last b rest. o.finished at (and front last) r.tree b rest;
         same = λ final g grows at front last.
@@ -203,8 +193,8 @@ module _ (names : List Text) where
             ∙ listed-append (terms_with f xs) (term_with f (value r.tree)) (term_with (by_text g names) t)
             ∙ ap (listed (terms_with f xs))
             (ap (λ x. Cons x (term_with (by_text g names) t))
-                (r.same final g (grows-on r.after.names o.after.names final o.follows.grows grows))
-                ∙ sym (with-cons (by_text g names) h t));
+            (r.same final g (grows-on r.after.names o.after.names final o.follows.grows grows))
+            ∙ sym (with-cons (by_text g names) h t));
       }
 
   -- ---- parts
@@ -220,7 +210,7 @@ module _ (names : List Text) where
       → all ≡ terms_with f xs ++ (z ∷ us)
   same-more f us xs y z all e h =
       e ∙ ap (λ l. l ++ us) (with-append f xs (y ∷ [])) ∙ append_assoc (terms_with f xs) (term_with f y ∷ []) us
-          ∙ ap (λ x. terms_with f xs ++ (x ∷ us)) h
+      ∙ ap (λ x. terms_with f xs ++ (x ∷ us)) h
 
   -- a part behind fewer than 64 is not marked
   unmarked : (front : Trees) (last t : Tree) (rest all : List Marked) → over (values front ++ value last ∷ []) ≡ false
@@ -243,10 +233,10 @@ module _ (names : List Text) where
   more-parts (t ∷ ts) e front last p s n b =
       let xs : List Term = values front ++ value last ∷ [] in
       let r : TermReads names t (behind_piece p (mark signs.comma)) =
-          (e.0 (small-first t ts s)).0 (behind_piece p (mark signs.comma)) (next-first p.count (term_variables t) (terms_variables ts) n) in
+      (e.0 (small-first t ts s)).0 (behind_piece p (mark signs.comma)) (next-first p.count (term_variables t) (terms_variables ts) n) in
       let o : MoreParts ts (and front last) r.tree r.after =
-          more-parts ts e.1 (and front last) r.tree r.after (small-others t ts s) (next-behind (terms_variables ts) r.follows n)
-          (fewer xs (value r.tree) t ts b) in
+      more-parts ts e.1 (and front last) r.tree r.after (small-others t ts s) (next-behind (terms_variables ts) r.follows n)
+      (fewer xs (value r.tree) t ts b) in
       let c : over xs ≡ false = not-over xs (omega (arith, b)) in
       record {
         all_but_one = o.all_but_one;
@@ -259,7 +249,7 @@ module _ (names : List Text) where
             (spells true o.all_but_one (spell (over (values o.all_but_one)) o.last_one rest)) c (o.finished rest);
         same = λ final g grows.
             same-more (by_text g final) (terms_with (by_text g names) ts) xs (value r.tree) (term_with (by_text g names) t)
-                (terms_with (by_text g final) (values o.all_but_one ++ value o.last_one ∷ [])) (o.same final g grows)
+            (terms_with (by_text g final) (values o.all_but_one ++ value o.last_one ∷ [])) (o.same final g grows)
             (r.same final g (grows-on r.after.names o.after.names final o.follows.grows grows));
       }
 
@@ -268,7 +258,7 @@ module _ (names : List Text) where
   parts t ts e p s n b =
       let r : TermReads names t p = (e.0 (small-first t ts s)).0 p (next-first p.count (term_variables t) (terms_variables ts) n) in
       let o : MoreParts ts none r.tree r.after =
-          more-parts ts e.1 none r.tree r.after (small-others t ts s) (next-behind (terms_variables ts) r.follows n) (omega (arith, b)) in
+      more-parts ts e.1 none r.tree r.after (small-others t ts s) (next-behind (terms_variables ts) r.follows n) (omega (arith, b)) in
       record {
         front = o.all_but_one;
         last = o.last_one;
@@ -279,7 +269,7 @@ module _ (names : List Text) where
         same = λ final g grows.
             o.same final g grows
             ∙ ap (λ x. x ∷ terms_with (by_text g names) ts)
-                (r.same final g (grows-on r.after.names o.after.names final o.follows.grows grows));
+            (r.same final g (grows-on r.after.names o.after.names final o.follows.grows grows));
       }
 
   -- ---- tuples
@@ -293,7 +283,7 @@ module _ (names : List Text) where
         tree = braces p.at o.front o.last;
         after = behind_piece o.after (mark signs.curly_close);
         follows =
-            reterminaled (term_spellings names (Tuple (t ∷ ts))) (term_variables (Tuple (t ∷ ts))) w.alone (variables-tuple (t ∷ ts))
+            rewritten (term_spellings names (Tuple (t ∷ ts))) (term_variables (Tuple (t ∷ ts))) w.alone (variables-tuple (t ∷ ts))
             (counted-last (chain (mark-curly_open p) (chain o.follows (mark-curly_close o.after))));
         same =
             λ final g grows. with-tuple (by_text g final) (values o.front ++ value o.last ∷ []) ∙ ap Tuple (o.same final g grows)
@@ -311,12 +301,12 @@ module _ (names : List Text) where
       let q : Position = behind_piece p (string t) in
       let n : are_next p.count (terms_variables (u ∷ us)) ≡ true = subst (λ ks. are_next p.count ks ≡ true) (variables-call s (u ∷ us)) h in
       let o : PartsRead names u us (behind_piece q (mark signs.round_open)) =
-          parts u us e (behind_piece q (mark signs.round_open)) small n b in
+      parts u us e (behind_piece q (mark signs.round_open)) small n b in
       record {
         tree = call (with_arguments (read_string p t) (string_form t) p.at q.at o.front o.last);
         after = behind_piece o.after (mark signs.round_close);
         follows =
-            reterminaled (term_spellings names (Tuple (Str s ∷ u ∷ us))) (term_variables (Tuple (Str s ∷ u ∷ us)))
+            rewritten (term_spellings names (Tuple (Str s ∷ u ∷ us))) (term_variables (Tuple (Str s ∷ u ∷ us)))
             (written-call names s u us).alone (variables-call s (u ∷ us))
             (counted-last (chain (string-follows p t) (chain (mark-round_open q) (chain o.follows (mark-round_close o.after)))));
         same = λ final g grows.
@@ -324,7 +314,7 @@ module _ (names : List Text) where
             with-tuple f (Str (read_string p t) ∷ (values o.front ++ value o.last ∷ []))
             ∙ ap₂ (λ x l. Tuple (x ∷ l))
             (with-str f (read_string p t) ∙ ap (λ x. Str (record { 0 = g x }))
-                (string-name p t final (grows-on q.names o.after.names final o.follows.grows grows)) ∙ sym (with-str (by_text g names) s))
+            (string-name p t final (grows-on q.names o.after.names final o.follows.grows grows)) ∙ sym (with-str (by_text g names) s))
             (o.same final g grows)
             ∙ sym (with-tuple (by_text g names) (Str s ∷ u ∷ us));
       }
@@ -344,12 +334,12 @@ module _ (names : List Text) where
       → (w : Writing) × Written names (Tuple (t ∷ u ∷ us)) w (behind_bar names w) × Alone (Tuple (t ∷ u ∷ us))
   many-alone t u us e fit small (inl k) =
       let b : length (u ∷ us) ≤ 64 =
-          subst (λ n. n ≤ 64) (length-map (u ∷ us) size_of) (at-most (length (map size_of (u ∷ us))) (size_of t).is_string fit) in
+      subst (λ n. n ≤ 64) (length-map (u ∷ us) size_of) (at-most (length (map size_of (u ∷ us))) (size_of t).is_string fit) in
       subst (λ x. (w : Writing) × Written names (Tuple (x ∷ u ∷ us)) w (behind_bar names w) × Alone (Tuple (x ∷ u ∷ us))) (sym k.1)
       (called names k.0 (u ∷ us), written-call names k.0 u us, call-alone k.0 u us e.1 (small-others t (u ∷ us) small) b)
   many-alone t u us e fit small (inr k) =
       let b : length (u ∷ us) ≤ 63 =
-          subst (λ n. n ≤ 63) (length-map (u ∷ us) size_of) (at-most-63 (length (map size_of (u ∷ us))) (size_of t).is_string k.1 fit) in
+      subst (λ n. n ≤ 63) (length-map (u ∷ us) size_of) (at-most-63 (length (map size_of (u ∷ us))) (size_of t).is_string k.1 fit) in
       let w = written-braces names t u us k.0 in
       (braced names (t ∷ u ∷ us), w, braces-alone t (u ∷ us) e small (omega (arith, b)) w)
 

@@ -45,9 +45,9 @@ moved : (before text : Text) (n : ℕ) (ns : List Text) (ps : List Spelling) →
     → SaidNext before text n ns ps
 moved before text n ns ps h =
     subst (λ z. Said (env ns (canonical n)) z (length before + length text) (position (length before + length text) n ns) ps)
-        (append_assoc before text (spellings_text ps))
+    (append_assoc before text (spellings_text ps))
     (subst (λ at. Said (env ns (canonical n)) ((before ++ text) ++ spellings_text ps) at (position at n ns) ps)
-        (length-append before text) h)
+    (length-append before text) h)
 
 -- a token of some kind with all bytes of a text, behind others
 abbrev token : Kind → Text → Text → Token
@@ -69,10 +69,10 @@ names-by e k z text ts = (env_from Module (env_by Module e text k) (lexemes z ts
 one : (k : Kind) (before text : Text) (e : Env) (w : Terminal) (n : ℕ) (ns : List Text) (ps : List Spelling)
     → terminal_by e (length before) text k ≡ w → env_by Module e text k ≡ env ns (canonical n) → SaidBehind (before ++ text) n ns ps
     → (terminals_from Module e (lexemes (before ++ (text ++ spellings_text ps))
-        (token k before text ∷ tokens_at (length before + length text) ps))
+    (token k before text ∷ tokens_at (length before + length text) ps))
     ≡ w ∷ piece_terminals (position (length before + length text) n ns) ps)
     × ((env_from Module e (lexemes (before ++ (text ++ spellings_text ps))
-        (token k before text ∷ tokens_at (length before + length text) ps))).names
+    (token k before text ∷ tokens_at (length before + length text) ps))).names
     ≡ (behind_pieces (position (length before + length text) n ns) ps).names)
 one k before text e w n ns ps f g h =
     let z = before ++ (text ++ spellings_text ps) in
@@ -90,7 +90,7 @@ one k before text e w n ns ps f g h =
 -- a string as it is or between quotes, with its terminal and the strings behind it
 string-said : (e : Env) (at : ℕ) (bs : Text) (c : Bool)
     → terminal_by e at (if c then bs else between_quotes bs) (if c then kind.Name else kind.Quoted)
-        ≡ string_terminal e.names at bs (if c then name_form bs else form.Quoted)
+    ≡ string_terminal e.names at bs (if c then name_form bs else form.Quoted)
 string-said e at bs true = refl
 string-said e at bs false = ap (λ t. string_terminal e.names at t form.Quoted) (unquoted-between_quotes bs)
 
@@ -122,7 +122,7 @@ said s before n ns [] f o q = (refl, refl)
 said s before n ns (string bs ∷ ps) f o q =
     let text : Text = string_text bs in
     one (if is_name bs then kind.Name else kind.Quoted) before text (env ns (canonical n))
-        (string_terminal ns (length before) bs (string_form bs)) n (noted ns bs) ps
+    (string_terminal ns (length before) bs (string_form bs)) n (noted ns bs) ps
     (string-said (env ns (canonical n)) (length before) bs (is_name bs)) (string-noted (env ns (canonical n)) bs (is_name bs))
     (said (sign_behind bs) (before ++ text) n (noted ns bs) ps f.2 (ordered before text n (noted ns bs) ps o) q)
 said s before n ns (number i ∷ ps) f o q =
@@ -135,13 +135,13 @@ said s before n ns (variable k ∷ ps) f o q =
     one kind.Variable before text (env ns (canonical n)) (terminal.Var k (length before)) (with_number n k) ns ps
     (ap (λ j. terminal.Var j (length before)) (number-canonical n k q x)) (with-canonical ns n k q x)
     (said false (before ++ text) (with_number n k) ns ps f.2 (ordered before text (with_number n k) ns ps (and-second (is_next n k) _ o))
-        (with-most n k q x))
+    (with-most n k q x))
 said s before n ns (mark m ∷ ps) f o q =
     let text : Text = mark_text m in
     one (kind.Mark m) before text (env ns (canonical n)) (mark_terminal (length before) n m) (behind_sign m n) ns ps
     (ap (λ j. mark_terminal (length before) j m) (length-canonical n)) (ap (env ns) (behind-canonical n (m == signs.dot)))
     (said (sign_after text (kind.Mark m)) (before ++ text) (behind_sign m n) ns ps f.2 (ordered before text (behind_sign m n) ns ps o)
-        (sign-most n (m == signs.dot) q))
+    (sign-most n (m == signs.dot) q))
 said s before n ns (space ∷ ps) f o q =
     let text : Text = spelling_text space in
     moved before text n ns ps (said s (before ++ text) n ns ps f (ordered before text n ns ps o) q)
@@ -153,13 +153,13 @@ said s before n ns (line_feed ∷ ps) f o q =
 pub terminals-behind : (s : Bool) (before : Text) (n : ℕ) (ns : List Text) (ps : List Spelling) → Fits s ps
     → in_order (position (length before) n ns) ps ≡ true → n ≤ 250
     → terminals_from Module (env ns (canonical n)) (lexemes (before ++ spellings_text ps) (tokens_at (length before) ps))
-        ≡ piece_terminals (position (length before) n ns) ps
+    ≡ piece_terminals (position (length before) n ns) ps
 terminals-behind s before n ns ps f o q = (said s before n ns ps f o q).0
 
 pub names-behind : (s : Bool) (before : Text) (n : ℕ) (ns : List Text) (ps : List Spelling) → Fits s ps
     → in_order (position (length before) n ns) ps ≡ true → n ≤ 250
     → (env_from Module (env ns (canonical n)) (lexemes (before ++ spellings_text ps) (tokens_at (length before) ps))).names
-        ≡ (behind_pieces (position (length before) n ns) ps).names
+    ≡ (behind_pieces (position (length before) n ns) ps).names
 names-behind s before n ns ps f o q = (said s before n ns ps f o q).1
 
 -- those of a whole text

@@ -71,8 +71,14 @@ module _ (renumber : ℕ → ℕ) where
 
   abbrev pub clause_with : Clause → Clause
   clause_with c =
-      record { at = 0; head = string_with c.head; args = terms_with c.args; guard = items_with c.guard; body = items_with c.body;
-      vars = c.vars }
+      record {
+        at = 0;
+        head = string_with c.head;
+        args = terms_with c.args;
+        guard = items_with c.guard;
+        body = items_with c.body;
+        vars = c.vars;
+      }
 
   abbrev pub export_with : Export → Export
   export_with e = record { at = 0; name = string_with e.name; arity = e.arity }
@@ -84,8 +90,13 @@ module _ (renumber : ℕ → ℕ) where
   -- a module with its strings renumbered, and all at no place
   unfoldable pub module_with : Module → Module
   module_with m =
-      record { name = name_with m.name; again = somewhere m.again; other = somewhere m.other; exports = exports_with m.exports;
-      clauses = map clause_with m.clauses }
+      record {
+        name = name_with m.name;
+        again = somewhere m.again;
+        other = somewhere m.other;
+        exports = exports_with m.exports;
+        clauses = map clause_with m.clauses;
+      }
 
 -- a string by its text, as `g` numbers texts
 abbrev pub by_text : (Text → ℕ) → List Text → ℕ → ℕ

@@ -48,15 +48,15 @@ whole w z e = e [] ∙ append-nil z
 pub term_texts_are_cut : TermTextsAreCut
 term_texts_are_cut names t h k =
     ap tokens_of (sym (whole (term_spellings names t) (term_text names t) (term-spells names t)))
-        ∙ spelled_texts (term_spellings names t []) (terms_fit names t h k)
+    ∙ spelled_texts (term_spellings names t []) (terms_fit names t h k)
 
 pub module_texts_are_cut : ModuleTextsAreCut
 module_texts_are_cut names m h =
     ap tokens_of (sym (whole (module_spellings names m) (module_text names m) (module-spells names m)))
-        ∙ spelled_texts (module_spellings names m []) (modules_fit names m h)
+    ∙ spelled_texts (module_spellings names m []) (modules_fit names m h)
 
 pub module_texts_are_read : ModuleTextsAreRead
 module_texts_are_read names m h =
     ap (λ z. read_in z (tokens_at 0 (module_spellings names m [])))
-        (sym (whole (module_spellings names m) (module_text names m) (module-spells names m)))
+    (sym (whole (module_spellings names m) (module_text names m) (module-spells names m)))
     ∙ written_is_read (module_spellings names m []) (modules_fit names m h)

@@ -51,7 +51,7 @@ no-quote b g = grind (arith, nat_tests)
 beyond : (c k : ℕ) → (c < 128 → ⊥) → k < length (encode c) → nat_eq (get_or (encode c) k 0) 39 ≡ false
 beyond c k h m =
     no-quote (get_or (encode c) k 0)
-        (λ g. h (subst (λ x. x < 128) (sym (inside_one c [] (encode c) k (sym (append-nil (encode c))) m g)) g))
+    (λ g. h (subst (λ x. x < 128) (sym (inside_one c [] (encode c) k (sym (append-nil (encode c))) m g)) g))
 
 choose : {A : Type 0} (b : Bool) → (b ≡ true → A) → (b ≡ false → A) → A
 choose true f g = f refl
@@ -71,14 +71,14 @@ doubled-one c s =
         subst (λ e. IsUtf8 (doubled e)) (sym (encode_ascii c l))
         (subst IsUtf8 (sym (append-nil (twice (nat_eq c 39) c)))
         (by_test IsUtf8 (nat_eq c 39) (39 ∷ 39 ∷ []) (c ∷ []) (λ h. ascii-IsUtf8 (39 ∷ 39 ∷ []) refl)
-            (λ h. subst IsUtf8 (encode_ascii c l) (IsUtf8-encode c s))))
+        (λ h. subst IsUtf8 (encode_ascii c l) (IsUtf8-encode c s))))
 
 doubled-chars : (cs : List ℕ) → scalars cs ≡ true → IsUtf8 (doubled (encodes cs))
 doubled-chars [] h = IsUtf8-nil
 doubled-chars (c ∷ cs) h =
     subst IsUtf8 (sym (doubled-append (encode c) (encodes cs)))
     (IsUtf8-append (doubled (encode c)) (doubled (encodes cs)) (doubled-one c (and-first (scalar c) _ h))
-        (doubled-chars cs (and-second (scalar c) _ h)))
+    (doubled-chars cs (and-second (scalar c) _ h)))
 
 doubled-IsUtf8 : (z : Text) → IsUtf8 z → IsUtf8 (doubled z)
 doubled-IsUtf8 z u = subst (λ x. IsUtf8 (doubled x)) u.1.1 (doubled-chars u.0 u.1.0)
@@ -91,7 +91,7 @@ string-IsUtf8 : (z : Text) → IsUtf8 z → IsUtf8 (string_text z)
 string-IsUtf8 z u =
     by_test IsUtf8 (is_name z) z (39 ∷ doubled z ++ 39 ∷ []) (λ h. u)
     (λ h. IsUtf8-append (39 ∷ []) (doubled z ++ 39 ∷ []) quote-IsUtf8
-        (IsUtf8-append (doubled z) (39 ∷ []) (doubled-IsUtf8 z u) quote-IsUtf8))
+    (IsUtf8-append (doubled z) (39 ∷ []) (doubled-IsUtf8 z u) quote-IsUtf8))
 
 decimal-IsUtf8 : (n : ℕ) → n < 2 ^ 64 → IsUtf8 (decimal n)
 decimal-IsUtf8 n h = IsUtf8-from_ascii (decimal n) (IsAscii-decimal n h)
@@ -116,10 +116,10 @@ fits-IsUtf8 s (string bs ∷ ps) f =
 fits-IsUtf8 s (number i ∷ ps) f = IsUtf8-append (signed_decimal i) (spellings_text ps) (number-IsUtf8 s i f.0) (fits-IsUtf8 false ps f.2)
 fits-IsUtf8 s (variable k ∷ ps) f =
     IsUtf8-append (86 ∷ decimal k) (spellings_text ps)
-        (IsUtf8-append (86 ∷ []) (decimal k) (ascii-IsUtf8 (86 ∷ []) refl) (decimal-IsUtf8 k f.0)) (fits-IsUtf8 false ps f.2)
+    (IsUtf8-append (86 ∷ []) (decimal k) (ascii-IsUtf8 (86 ∷ []) refl) (decimal-IsUtf8 k f.0)) (fits-IsUtf8 false ps f.2)
 fits-IsUtf8 s (mark n ∷ ps) f =
     let r : (k : ℕ) × (slice_get marks k ≡ Some (mark_text n, n)) = mark-row n f.0 in
     IsUtf8-append (mark_text n) (spellings_text ps) (ascii-IsUtf8 (mark_text n) (row-below marks r.0 (mark_text n, n) refl r.1))
-        (fits-IsUtf8 (sign_after (mark_text n) (kind.Mark n)) ps f.2)
+    (fits-IsUtf8 (sign_after (mark_text n) (kind.Mark n)) ps f.2)
 fits-IsUtf8 s (space ∷ ps) f = IsUtf8-append (codes " ") (spellings_text ps) (ascii-IsUtf8 (codes " ") refl) (fits-IsUtf8 s ps f)
 fits-IsUtf8 s (line_feed ∷ ps) f = IsUtf8-append (codes "\n") (spellings_text ps) (ascii-IsUtf8 (codes "\n") refl) (fits-IsUtf8 s ps f)

@@ -35,17 +35,17 @@ cut s at (string bs ∷ ps) f =
     let e : Ends (spellings_text ps) = ends-token (sign_behind bs) ps f.1 f.2 in
     lex-string s at bs (spellings_text ps) f.0.0 e.word e.quote
     ∙ ap (front (record { kind = if is_name bs then kind.Name else kind.Quoted; at = at; len = length (string_text bs) } ∷ []))
-        (cut (sign_behind bs) (at + length (string_text bs)) ps f.2)
+    (cut (sign_behind bs) (at + length (string_text bs)) ps f.2)
 cut s at (number i ∷ ps) f =
     let e : Ends (spellings_text ps) = ends-token false ps f.1 f.2 in
     lex-number s at i (spellings_text ps) (stands s i f.0) e.digits
     ∙ ap (front (record { kind = kind.Int i; at = at; len = length (spelling_text (number i)) } ∷ []))
-        (cut false (at + length (spelling_text (number i))) ps f.2)
+    (cut false (at + length (spelling_text (number i))) ps f.2)
 cut s at (variable k ∷ ps) f =
     let e : Ends (spellings_text ps) = ends-token false ps f.1 f.2 in
     lex-numbered s at k (spellings_text ps) f.0 e.word
     ∙ ap (front (record { kind = kind.Variable; at = at; len = length (spelling_text (variable k)) } ∷ []))
-        (cut false (at + length (spelling_text (variable k))) ps f.2)
+    (cut false (at + length (spelling_text (variable k))) ps f.2)
 cut s at (mark n ∷ ps) f =
     let r : (k : ℕ) × (slice_get marks k ≡ Some (mark_text n, n)) = mark-row n f.0 in
     let t : Bool = sign_after (mark_text n) (kind.Mark n) in
@@ -58,5 +58,5 @@ pub spelled_texts : SpelledTextsAreCut
 unfolding tokens_in
 spelled_texts ps f =
     ap (λ c. if c then tokens_in (spellings_text ps) else Err (record { code = NotUtf8; at = utf8_valid_len (spellings_text ps) }))
-        (is_utf8-from_IsUtf8 (spellings_text ps) (fits-IsUtf8 true ps f))
+    (is_utf8-from_IsUtf8 (spellings_text ps) (fits-IsUtf8 true ps f))
     ∙ cut true 0 ps f

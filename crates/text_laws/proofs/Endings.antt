@@ -93,8 +93,14 @@ ends-token s (line_feed ∷ ps) e f = ends-by (codes "\n" ++ spellings_text ps) 
 
 lower-ends : (b : ℕ) (z : Text) → is_ascii_lowercase b ≡ true → EndsMark (b ∷ z)
 lower-ends b z h =
-    record { no_equal = grind (arith, nat_tests); no_minus = grind (arith, nat_tests); no_colon = grind (arith, nat_tests);
-    no_less = grind (arith, nat_tests); no_back = grind (arith, nat_tests); no_digit = grind (arith, nat_tests) }
+    record {
+      no_equal = grind (arith, nat_tests);
+      no_minus = grind (arith, nat_tests);
+      no_colon = grind (arith, nat_tests);
+      no_less = grind (arith, nat_tests);
+      no_back = grind (arith, nat_tests);
+      no_digit = grind (arith, nat_tests);
+    }
 
 name-ends : (bs z : Text) → is_name bs ≡ true → EndsMark (bs ++ z)
 name-ends [] z h = absurd (cc)

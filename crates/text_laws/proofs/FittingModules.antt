@@ -84,7 +84,7 @@ module _ (names : List Text) (lines : (k : ℕ) → IsOneLine (name_at names k))
   at-leaf t at h =
       let g : is_writable_term t ≡ true = sym (fold-Leaf Bool writable_expr_step t at) ∙ h in
       subst FitsExpr (sym (fold-Leaf ExprSpelling (spelled_expr_step names) t at))
-          (record { alone = term-fits names lines t g; as_operand = term-fits names lines t g })
+      (record { alone = term-fits names lines t g; as_operand = term-fits names lines t g })
 
   at-op : (op : ArithOp) (d e : Expr) → At d → At e → At (Op op d e)
   unfolding is_writable_expr
@@ -96,7 +96,7 @@ module _ (names : List Text) (lines : (k : ℕ) → IsOneLine (name_at names k))
       let j : FitsExpr y = g (and-second (is_writable_expr d) (is_writable_expr e) k) in
       subst FitsExpr (sym (fold-Op ExprSpelling (spelled_expr_step names) op d e))
       (operation-fits (λ ps. x.as_operand (spelled_operator op (y.as_operand ps)))
-          (both-start x.as_operand (spelled_operator op) y.as_operand i.as_operand (operator-parts op) j.as_operand))
+      (both-start x.as_operand (spelled_operator op) y.as_operand i.as_operand (operator-parts op) j.as_operand))
 
   expr-fits : (e : Expr) → is_writable_expr e ≡ true → Starts (expr_spellings names e)
   unfolding expr_spellings
@@ -106,7 +106,7 @@ module _ (names : List Text) (lines : (k : ℕ) → IsOneLine (name_at names k))
   arguments-follow [] h ps b = b
   arguments-follow (t ∷ ts) h ps b =
       opens signs.round_open refl refl refl (terms_spellings names (t ∷ ts) (mark signs.round_close ∷ ps))
-          (terms-fit names lines (t ∷ ts) h (mark signs.round_close ∷ ps) (closes signs.round_close refl refl ps b))
+      (terms-fit names lines (t ∷ ts) h (mark signs.round_close ∷ ps) (closes signs.round_close refl refl ps b))
 
   -- a name with its arguments fits anywhere
   named-fits : (name : Sym) (ts : List Term) (ps : List Spelling) → list_all is_writable_term ts ≡ true → Behind ps
@@ -118,23 +118,23 @@ module _ (names : List Text) (lines : (k : ℕ) → IsOneLine (name_at names k))
   call-fits (User name args) h = λ ps b. named-fits name args ps h b true
   call-fits (Unify a b) h =
       both-start (term_spellings names a) (spaced (mark signs.equals)) (term_spellings names b)
-          (term-fits names lines a (and-first (is_writable_term a) _ h)) (λ ps f. (tt, λ s. (refl, tt, f)))
-          (term-fits names lines b (and-second (is_writable_term a) _ h))
+      (term-fits names lines a (and-first (is_writable_term a) _ h)) (λ ps f. (tt, λ s. (refl, tt, f)))
+      (term-fits names lines b (and-second (is_writable_term a) _ h))
   call-fits (Assign a e) h =
       both-start (term_spellings names a) (spaced (mark signs.assign)) (expr_spellings names e)
-          (term-fits names lines a (and-first (is_writable_term a) _ h)) (λ ps f. (tt, λ s. (refl, tt, f)))
-          (expr-fits e (and-second (is_writable_term a) _ h))
+      (term-fits names lines a (and-first (is_writable_term a) _ h)) (λ ps f. (tt, λ s. (refl, tt, f)))
+      (expr-fits e (and-second (is_writable_term a) _ h))
   call-fits (Same a b) h =
       both-start (term_spellings names a) (spaced (mark signs.same)) (term_spellings names b)
-          (term-fits names lines a (and-first (is_writable_term a) _ h)) (λ ps f. (tt, λ s. (refl, tt, f)))
-          (term-fits names lines b (and-second (is_writable_term a) _ h))
+      (term-fits names lines a (and-first (is_writable_term a) _ h)) (λ ps f. (tt, λ s. (refl, tt, f)))
+      (term-fits names lines b (and-second (is_writable_term a) _ h))
   call-fits (NotSame a b) h =
       both-start (term_spellings names a) (spaced (mark signs.not_same)) (term_spellings names b)
-          (term-fits names lines a (and-first (is_writable_term a) _ h)) (λ ps f. (tt, λ s. (refl, tt, f)))
-          (term-fits names lines b (and-second (is_writable_term a) _ h))
+      (term-fits names lines a (and-first (is_writable_term a) _ h)) (λ ps f. (tt, λ s. (refl, tt, f)))
+      (term-fits names lines b (and-second (is_writable_term a) _ h))
   call-fits (Compare op d e) h =
       both-start (expr_spellings names d) (spelled_comparison op) (expr_spellings names e)
-          (expr-fits d (and-first (is_writable_expr d) _ h)) (comparison-parts op) (expr-fits e (and-second (is_writable_expr d) _ h))
+      (expr-fits d (and-first (is_writable_expr d) _ h)) (comparison-parts op) (expr-fits e (and-second (is_writable_expr d) _ h))
 
   each-item : (is : List Item) → are_writable_items is ≡ true → EachStarts (map (λ (i : Item). spelled_item_call names i.call) is)
   each-item [] h = tt
@@ -148,9 +148,15 @@ module _ (names : List Text) (lines : (k : ℕ) → IsOneLine (name_at names k))
       → Follows (spelled_tail names guard body)
   tail-follows [] [] h k ps b = b
   tail-follows [] (i ∷ is) h k ps b = (tt, λ s. (refl, tt, items-fit (i ∷ is) k ps b))
-  tail-follows (g ∷ gs) body h k ps b =
-      (tt, λ s. (refl, tt, both-start (spelled_items names (g ∷ gs)) (spaced (mark signs.bar)) (spelled_items names body)
-          (items-fit (g ∷ gs) h) (λ ps f. (tt, λ s. (refl, tt, f))) (items-fit body k) ps b))
+  tail-follows (g ∷ gs) body h k ps b = (
+    tt,
+    λ s. (
+      refl,
+      tt,
+      both-start (spelled_items names (g ∷ gs)) (spaced (mark signs.bar)) (spelled_items names body)
+          (items-fit (g ∷ gs) h) (λ ps f. (tt, λ s. (refl, tt, f))) (items-fit body k) ps b,
+    ),
+  )
 
   clause-fits : (c : Clause) (ps : List Spelling) → is_writable_clause c ≡ true → Anywhere ps
       → Anywhere (spelled_clause names c (line_feed ∷ ps))
@@ -158,9 +164,9 @@ module _ (names : List Text) (lines : (k : ℕ) → IsOneLine (name_at names k))
       let g : (are_writable_items c.guard && are_writable_items c.body) ≡ true = and-second (list_all is_writable_term c.args) _ h in
       let e : Behind (mark signs.dot ∷ line_feed ∷ ps) = (tt, λ s. (refl, tt, k _)) in
       named-fits c.head c.args (spelled_tail names c.guard c.body (mark signs.dot ∷ line_feed ∷ ps))
-          (and-first (list_all is_writable_term c.args) _ h)
+      (and-first (list_all is_writable_term c.args) _ h)
       (tail-follows c.guard c.body (and-first (are_writable_items c.guard) _ g) (and-second (are_writable_items c.guard) _ g)
-          (mark signs.dot ∷ line_feed ∷ ps) e)
+      (mark signs.dot ∷ line_feed ∷ ps) e)
 
   clauses-fit : (cs : List Clause) (ps : List Spelling) → list_all is_writable_clause cs ≡ true → Anywhere ps
       → Anywhere (spelled_clauses names cs ps)
@@ -180,18 +186,38 @@ module _ (names : List Text) (lines : (k : ℕ) → IsOneLine (name_at names k))
 
   name_line-fits : (n : Option Sym) (ps : List Spelling) → Anywhere ps → Anywhere (spelled_name_line names n ps)
   name_line-fits None ps k t = k t
-  name_line-fits (Some s) ps k t =
-      (refl, tt, (word (codes "module") refl refl, tt,
-          (refl, tt, string-fits true (name_at names s.0) (closing_line ps) (lines s.0) (closing-follows ps k))))
+  name_line-fits (Some s) ps k t = (
+    refl,
+    tt,
+    (
+      word (codes "module") refl refl,
+      tt,
+      (refl, tt, string-fits true (name_at names s.0) (closing_line ps) (lines s.0) (closing-follows ps k)),
+    ),
+  )
 
   exports_line-fits : (es : Option (List Export)) (ps : List Spelling) → are_writable_exports es ≡ true → Anywhere ps
       → Anywhere (spelled_exports_line names es ps)
   exports_line-fits None ps h k t = k t
   exports_line-fits (Some es) ps h k t =
-      let b : Behind (closing_line ps) = closing-follows ps k in
-      (refl, tt, (word (codes "export") refl refl, tt,
-          (refl, tt, (refl, tt, parted-starts comma (map (spelled_export names) es) comma-parts (each-export es h)
-          (mark signs.square_close ∷ closing_line ps) (closes signs.square_close refl refl (closing_line ps) b)))))
+      let b : Behind (closing_line ps) = closing-follows ps k in (
+        refl,
+        tt,
+        (
+          word (codes "export") refl refl,
+          tt,
+          (
+            refl,
+            tt,
+            (
+              refl,
+              tt,
+              parted-starts comma (map (spelled_export names) es) comma-parts (each-export es h)
+                  (mark signs.square_close ∷ closing_line ps) (closes signs.square_close refl refl (closing_line ps) b),
+            ),
+          ),
+        ),
+      )
 
   -- the pieces of a module
   pub module-fits : (m : Module) → is_writable_module m ≡ true → Fits true (module_spellings names m [])

@@ -48,8 +48,8 @@ braces-fit xs h ps b =
 call-fits : (a : TermSpelling) (xs : List TermSpelling) → FitsTerm a → AllFit xs → Starts (spelled_call a xs)
 call-fits a xs e h ps b =
     e.alone (mark signs.round_open ∷ spelled_parts xs (mark signs.round_close ∷ ps))
-        (opens signs.round_open refl refl refl (spelled_parts xs (mark signs.round_close ∷ ps))
-        (parts-fit xs h (mark signs.round_close ∷ ps) (closes signs.round_close refl refl ps b)))
+    (opens signs.round_open refl refl refl (spelled_parts xs (mark signs.round_close ∷ ps))
+    (parts-fit xs h (mark signs.round_close ∷ ps) (closes signs.round_close refl refl ps b)))
 
 choice-fits : (c : Bool) (w v : Writing) → Starts w → Starts v → Starts (if c then w else v)
 choice-fits true w v e f = e
@@ -141,8 +141,8 @@ module _ (names : List Text) (lines : (k : ℕ) → IsOneLine (name_at names k))
       let g : is_number k ≡ true = sym (fold-Ro Bool writable_step k) ∙ h in
       by-step (Ro k) _ (fold-Ro TermSpelling (spelling_step names) k)
       (no_list-fits false (λ ps. variable k ∷ mark signs.question ∷ ps)
-          (λ ps b. let c : Behind (mark signs.question ∷ ps) = closes signs.question refl refl ps b in
-          (below k (2 ^ 64) g, c.0, c.1 false)))
+      (λ ps b. let c : Behind (mark signs.question ∷ ps) = closes signs.question refl refl ps b in
+      (below k (2 ^ 64) g, c.0, c.1 false)))
 
   at-term : (t : Term) → At t
   at-term = term_induction At at-int at-str at-nil at-cons at-tuple at-var at-ro

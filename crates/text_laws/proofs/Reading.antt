@@ -51,16 +51,16 @@ read-behind : (s : Bool) (before : Text) (ps : List Spelling) → Fits s ps
 read-behind s before [] f = refl
 read-behind s before (string bs ∷ ps) f =
     one (if is_name bs then kind.Name else kind.Quoted) before (string_text bs) (string bs) ps (without_gaps ps)
-        (string-meant (is_name bs) bs) (read-behind (sign_behind bs) (before ++ string_text bs) ps f.2)
+    (string-meant (is_name bs) bs) (read-behind (sign_behind bs) (before ++ string_text bs) ps f.2)
 read-behind s before (number i ∷ ps) f =
     one (kind.Int i) before (spelling_text (number i)) (number i) ps (without_gaps ps) refl
-        (read-behind false (before ++ spelling_text (number i)) ps f.2)
+    (read-behind false (before ++ spelling_text (number i)) ps f.2)
 read-behind s before (variable k ∷ ps) f =
     one kind.Variable before (86 ∷ decimal k) (variable k) ps (without_gaps ps) (ap variable (digits_value-decimal decimal-numerals k f.0))
-        (read-behind false (before ++ 86 ∷ decimal k) ps f.2)
+    (read-behind false (before ++ 86 ∷ decimal k) ps f.2)
 read-behind s before (mark n ∷ ps) f =
     one (kind.Mark n) before (mark_text n) (mark n) ps (without_gaps ps) refl
-        (read-behind (sign_after (mark_text n) (kind.Mark n)) (before ++ mark_text n) ps f.2)
+    (read-behind (sign_after (mark_text n) (kind.Mark n)) (before ++ mark_text n) ps f.2)
 read-behind s before (space ∷ ps) f = moved before (spelling_text space) ps ∙ read-behind s (before ++ spelling_text space) ps f
 read-behind s before (line_feed ∷ ps) f = moved before (spelling_text line_feed) ps ∙ read-behind s (before ++ spelling_text line_feed) ps f
 

@@ -79,7 +79,7 @@ module _ (names : List Text) where
       by-step (Op op d e) _ _ (fold-Op ExprSpelling (spelled_expr_step names) op d e) (fold-Op ExprTexts (expr_step names) op d e)
       (operation-agrees (λ ps. x.as_operand (spelled_operator op (y.as_operand ps))) (u.as_operand ++ (operator_text op ++ v.as_operand))
       (three x.as_operand (spelled_operator op) y.as_operand u.as_operand (operator_text op) v.as_operand f.as_operand
-          (operator-spells op) g.as_operand))
+      (operator-spells op) g.as_operand))
 
   -- the text of an expression
   expr-spells : (e : Expr) → Spells (expr_spellings names e) (expr_text names e)
@@ -90,7 +90,7 @@ module _ (names : List Text) where
   arguments-spell [] ps = refl
   arguments-spell (t ∷ ts) ps =
       three (λ ps. mark signs.round_open ∷ ps) (terms_spellings names (t ∷ ts)) (λ ps. mark signs.round_close ∷ ps) (codes "(")
-          (terms_text names (t ∷ ts)) (codes ")")
+      (terms_text names (t ∷ ts)) (codes ")")
       (λ ps. refl) (terms-spell names (t ∷ ts)) (λ ps. refl) ps
 
   named-spells : (name : Sym) (ts : List Term) → Spells (spelled_named names name ts) (named_text names name ts)
@@ -102,19 +102,19 @@ module _ (names : List Text) where
   call-spells (User name args) = named-spells name args
   call-spells (Unify a b) =
       three (term_spellings names a) (spaced (mark signs.equals)) (term_spellings names b) (term_text names a) (codes " = ")
-          (term_text names b) (term-spells names a) (λ ps. refl) (term-spells names b)
+      (term_text names b) (term-spells names a) (λ ps. refl) (term-spells names b)
   call-spells (Assign a e) =
       three (term_spellings names a) (spaced (mark signs.assign)) (expr_spellings names e) (term_text names a) (codes " := ")
-          (expr_text names e) (term-spells names a) (λ ps. refl) (expr-spells e)
+      (expr_text names e) (term-spells names a) (λ ps. refl) (expr-spells e)
   call-spells (Same a b) =
       three (term_spellings names a) (spaced (mark signs.same)) (term_spellings names b) (term_text names a) (codes " == ")
-          (term_text names b) (term-spells names a) (λ ps. refl) (term-spells names b)
+      (term_text names b) (term-spells names a) (λ ps. refl) (term-spells names b)
   call-spells (NotSame a b) =
       three (term_spellings names a) (spaced (mark signs.not_same)) (term_spellings names b) (term_text names a) (codes " \\== ")
-          (term_text names b) (term-spells names a) (λ ps. refl) (term-spells names b)
+      (term_text names b) (term-spells names a) (λ ps. refl) (term-spells names b)
   call-spells (Compare op d e) =
       three (expr_spellings names d) (spelled_comparison op) (expr_spellings names e) (expr_text names d) (comparison_text op)
-          (expr_text names e) (expr-spells d) (comparison-spells op) (expr-spells e)
+      (expr_text names e) (expr-spells d) (comparison-spells op) (expr-spells e)
 
   each-item : (is : List Item) → EachSpells (map (λ (i : Item). spelled_item_call names i.call) is) (map (item_text names) is)
   each-item [] = tt
@@ -132,26 +132,26 @@ module _ (names : List Text) where
       (items-spell (i ∷ is)) ps
   tail-spells (g ∷ gs) body ps =
       joined (spaced (mark signs.if_sign)) (λ ps. spelled_items names (g ∷ gs) (spaced (mark signs.bar) (spelled_items names body ps)))
-          (codes " :- ") (items_text names (g ∷ gs) ++ (codes " | " ++ items_text names body)) (λ ps. refl)
+      (codes " :- ") (items_text names (g ∷ gs) ++ (codes " | " ++ items_text names body)) (λ ps. refl)
       (three (spelled_items names (g ∷ gs)) (spaced (mark signs.bar)) (spelled_items names body) (items_text names (g ∷ gs)) (codes " | ")
-          (items_text names body) (items-spell (g ∷ gs)) (λ ps. refl) (items-spell body)) ps
+      (items_text names body) (items-spell (g ∷ gs)) (λ ps. refl) (items-spell body)) ps
 
   clause-spells : (c : Clause) → Spells (spelled_clause names c) (clause_text names c)
   clause-spells c =
       three (spelled_named names c.head c.args) (spelled_tail names c.guard c.body) (λ ps. mark signs.dot ∷ ps)
-          (named_text names c.head c.args) (tail_text names c.guard c.body) (codes ".")
+      (named_text names c.head c.args) (tail_text names c.guard c.body) (codes ".")
       (named-spells c.head c.args) (tail-spells c.guard c.body) (λ ps. refl)
 
   clauses-spell : (cs : List Clause) → Spells (spelled_clauses names cs) (clauses_text names cs)
   clauses-spell [] ps = refl
   clauses-spell (c ∷ cs) ps =
       three (spelled_clause names c) (λ ps. line_feed ∷ ps) (spelled_clauses names cs) (clause_text names c) (codes "\n")
-          (clauses_text names cs) (clause-spells c) (λ ps. refl) (clauses-spell cs) ps
+      (clauses_text names cs) (clause-spells c) (λ ps. refl) (clauses-spell cs) ps
 
   export-spells : (e : Export) → Spells (spelled_export names e) (export_text names e)
   export-spells e =
       three (spelled_name names e.name) (λ ps. mark signs.divide ∷ ps) (λ ps. number (pos e.arity) ∷ ps) (name_text names e.name)
-          (codes "/") (decimal e.arity) (λ ps. refl) (λ ps. refl) (λ ps. refl)
+      (codes "/") (decimal e.arity) (λ ps. refl) (λ ps. refl) (λ ps. refl)
 
   each-export : (es : List Export) → EachSpells (map (spelled_export names) es) (map (export_text names) es)
   each-export [] = tt
@@ -161,22 +161,22 @@ module _ (names : List Text) where
   name_line-spells None ps = refl
   name_line-spells (Some s) ps =
       three (λ ps. mark signs.minus ∷ string (codes "module") ∷ mark signs.round_open ∷ ps) (spelled_name names s) (closing_line)
-          (codes "-module(") (name_text names s) (codes ").\n")
+      (codes "-module(") (name_text names s) (codes ").\n")
       (λ ps. refl) (λ ps. refl) (λ ps. refl) ps
 
   exports_line-spells : (es : Option (List Export)) → Spells (spelled_exports_line names es) (exports_line names es)
   exports_line-spells None ps = refl
   exports_line-spells (Some es) ps =
       three (λ ps. mark signs.minus ∷ string (codes "export") ∷ mark signs.round_open ∷ mark signs.square_open ∷ ps)
-          (parted_by comma (map (spelled_export names) es)) (λ ps. mark signs.square_close ∷ closing_line ps)
+      (parted_by comma (map (spelled_export names) es)) (λ ps. mark signs.square_close ∷ closing_line ps)
       (codes "-export([") (parted (codes ",") (map (export_text names) es)) (codes "]).\n")
       (λ ps. refl) (parted-then comma (codes ",") (map (spelled_export names) es) (map (export_text names) es) (λ ps. refl)
-          (each-export es)) (λ ps. refl) ps
+      (each-export es)) (λ ps. refl) ps
 
   -- the text of a module
   pub module-spells : (m : Module) → Spells (module_spellings names m) (module_text names m)
   unfolding module_spellings
   module-spells m =
       three (spelled_name_line names m.name) (spelled_exports_line names m.exports) (spelled_clauses names m.clauses)
-          (name_line names m.name) (exports_line names m.exports) (clauses_text names m.clauses)
+      (name_line names m.name) (exports_line names m.exports) (clauses_text names m.clauses)
       (name_line-spells m.name) (exports_line-spells m.exports) (clauses-spell m.clauses)

@@ -61,9 +61,9 @@ call-agrees : (a : TermSpelling) (b : TermTexts) (xs : List TermSpelling) (bs : 
     → Spells (spelled_call a xs) (b.alone ++ (codes "(" ++ parts_of bs ++ codes ")"))
 call-agrees a b xs bs e h =
     joined a.alone (λ ps. mark signs.round_open ∷ spelled_parts xs (mark signs.round_close ∷ ps)) b.alone
-        (codes "(" ++ parts_of bs ++ codes ")") e.alone
+    (codes "(" ++ parts_of bs ++ codes ")") e.alone
     (between (spelled_parts xs) (parts_of bs) signs.round_open signs.round_close (codes "(") (codes ")") (λ ps. refl) (λ ps. refl)
-        (parts-agree xs bs h))
+    (parts-agree xs bs h))
 
 choice-agrees : (c d : Bool) (w v : Writing) (x y : Text) → c ≡ d → Spells w x → Spells v y
     → Spells (if c then w else v) (if d then x else y)
@@ -129,7 +129,7 @@ module _ (names : List Text) where
   at-tuple ts h =
       by-step (Tuple ts) _ _ (fold-Tuple TermSpelling (spelling_step names) ts) (fold-Tuple TermTexts (text_step names) ts)
       (no_list-agrees false (spelled_tuple (map (term_spelling names) ts)) (tuple_of (map (term_texts names) ts))
-          (tuple-agrees (map (term_spelling names) ts) (map (term_texts names) ts) (at-each ts h)))
+      (tuple-agrees (map (term_spelling names) ts) (map (term_texts names) ts) (at-each ts h)))
 
   at-var : (k : ℕ) → At (Var k)
   at-var k =

@@ -59,11 +59,17 @@ module _ (names : List Text) where
   spelling_step (Term-F.Int n) = spelled_no_list false (λ ps. number n ∷ ps)
   spelling_step (Term-F.Str s) = spelled_no_list true (λ ps. string (name_at names s.0) ∷ ps)
   spelling_step Term-F.Nil =
-      record { alone = λ ps. mark signs.square_open ∷ mark signs.square_close ∷ ps; as_rest = λ ps. mark signs.square_close ∷ ps;
-      is_string = false }
+      record {
+        alone = λ ps. mark signs.square_open ∷ mark signs.square_close ∷ ps;
+        as_rest = λ ps. mark signs.square_close ∷ ps;
+        is_string = false;
+      }
   spelling_step (Term-F.Cons h t) =
-      record { alone = λ ps. mark signs.square_open ∷ h.alone (t.as_rest ps); as_rest = λ ps. mark signs.comma ∷ h.alone (t.as_rest ps);
-      is_string = false }
+      record {
+        alone = λ ps. mark signs.square_open ∷ h.alone (t.as_rest ps);
+        as_rest = λ ps. mark signs.comma ∷ h.alone (t.as_rest ps);
+        is_string = false;
+      }
   spelling_step (Term-F.Tuple ts) = spelled_no_list false (spelled_tuple ts)
   spelling_step (Term-F.Var k) = spelled_no_list false (λ ps. variable k ∷ ps)
   spelling_step (Term-F.Ro k) = spelled_no_list false (λ ps. variable k ∷ mark signs.question ∷ ps)

@@ -35,11 +35,11 @@ pub loop-i-preserved : goal.loop-i-preserved
 loop-i-preserved c = record {
   kept = subst (λ n. Kept goals c.args.terminals.now (c.loop-i.i + 1) c.in-Some.next n) (sym c.deeper-depth.ensures)
       (go-on goals c.args.terminals.now c.loop-i.i c.loop-i.state c.loop-i.depth
-          (terminal.Int (pos 0) 0) c.loop-i.invariant.kept c.loop-i-test.true
+      (terminal.Int (pos 0) 0) c.loop-i.invariant.kept c.loop-i-test.true
       c.in-Some.next c.in-Some.large (sym c.in-Ok.ensures ∙ c.in-Some.is) (sym c.fault_of.ensures ∙ c.in_default-fault_of.is));
   few = few-step c.loop-i.state c.in-Some.next _ c.loop-i.invariant.few
       (passes goals c.args.terminals.now c.loop-i.i c.loop-i.state c.loop-i.depth
-          (terminal.Int (pos 0) 0) c.loop-i.invariant.kept c.loop-i-test.true
+      (terminal.Int (pos 0) 0) c.loop-i.invariant.kept c.loop-i-test.true
       c.in-Some.next c.in-Some.large (sym c.in-Ok.ensures ∙ c.in-Some.is) (sym c.fault_of.ensures ∙ c.in_default-fault_of.is));
 }
 

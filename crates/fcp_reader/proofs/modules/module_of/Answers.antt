@@ -22,19 +22,19 @@ loop-i-init c =
 pub returns-in_default-next : goal.returns-in_default-next
 returns-in_default-next c =
     stop-unexpected modules c.args.terminals.now c.loop-i.i c.loop-i.state c.loop-i.depth
-        (terminal.Int (pos 0) 0) c.loop-i.invariant c.loop-i-test.true (sym c.in-Ok.ensures ∙ c.in_default-next.is)
+    (terminal.Int (pos 0) 0) c.loop-i.invariant c.loop-i-test.true (sym c.in-Ok.ensures ∙ c.in_default-next.is)
 
 pub returns-in-Some-fault_of : goal.returns-in-Some-fault_of
 returns-in-Some-fault_of c =
     stop-fault modules c.args.terminals.now c.loop-i.i c.loop-i.state c.loop-i.depth
-        (terminal.Int (pos 0) 0) c.loop-i.invariant c.loop-i-test.true
+    (terminal.Int (pos 0) 0) c.loop-i.invariant c.loop-i-test.true
     c.in-Some.next c.in-Some.large c.in-Some-fault_of.code (sym c.in-Ok.ensures ∙ c.in-Some.is) (sym c.in-Some-fault_of.ensures)
 
 pub loop-i-preserved : goal.loop-i-preserved
 loop-i-preserved c =
     subst (λ n. Kept modules c.args.terminals.now (c.loop-i.i + 1) c.in-Some.next n) (sym c.deeper-depth.ensures)
     (go-on modules c.args.terminals.now c.loop-i.i c.loop-i.state c.loop-i.depth
-        (terminal.Int (pos 0) 0) c.loop-i.invariant c.loop-i-test.true
+    (terminal.Int (pos 0) 0) c.loop-i.invariant c.loop-i-test.true
     c.in-Some.next c.in-Some.large (sym c.in-Ok.ensures ∙ c.in-Some.is) (sym c.fault_of.ensures ∙ c.in_default-fault_of.is))
 
 pub returns-in-Between : goal.returns-in-Between

@@ -14,7 +14,7 @@ overflow_add-at g c =
 pub returns-in_err-put : goal.returns-in_err-put
 returns-in_err-put g c =
     stop _ c.from_residual.ensures.0 c.in_err-put.ensures _
-        (moved (quote_step c.loop-at.rest.now c.in-Some.at (sym c.in-Some.ensures)) c.loop-at.invariant.0)
+    (moved (quote_step c.loop-at.rest.now c.in-Some.at (sym c.in-Some.ensures)) c.loop-at.invariant.0)
 
 pub returns-in_err-put-2 : goal.returns-in_err-put-2
 returns-in_err-put-2 g c =

@@ -18,7 +18,7 @@ returns-in_err-write_doubled g c =
     let bytes : name_at c.args.names.now c.args.string.0 ≡ c.as_bytes-bytes.result.now = search rules in
     let e : is_name (name_at c.args.names.now c.args.string.0) ≡ false = search rules in
     stop _ c.from_residual-in_err-write_doubled.ensures.0 c.in_err-write_doubled.ensures _
-        (go_on c.in_ok-put.ensures (begin_as (quoted _ _ bytes e)))
+    (go_on c.in_ok-put.ensures (begin_as (quoted _ _ bytes e)))
 
 pub returns : goal.returns
 returns g c =

@@ -9,4 +9,4 @@ abbrev pub invariant-loop-at : goal.invariant-loop-at
 invariant-loop-at g l =
     HasRest (g.K.Sink.written l.fn.sink) (g.K.Sink.written l.sink) (g.K.Sink.faults l.fn.sink) (g.K.Sink.faults l.sink)
     (parted (codes ",") (map (export_text l.names) (drop l.from l.exports)))
-        (each_behind (codes ",") (map (export_text l.names) (drop l.at l.exports)))
+    (each_behind (codes ",") (map (export_text l.names) (drop l.at l.exports)))

@@ -18,4 +18,5 @@ pub returns : goal.returns
 returns g c =
     end _ _ _ (go_on c.in_ok-write_exports.ensures
     (go_on c.in_ok-put.ensures (begin_as
-    (exports_parts c.args.names.now c.args.exports.now c.in-Some.exports c.as_slice.result.now c.in-Some.is c.as_slice.ensures)))) c.put-2.ensures
+    (exports_parts c.args.names.now c.args.exports.now c.in-Some.exports c.as_slice.result.now c.in-Some.is c.as_slice.ensures))))
+    c.put-2.ensures
