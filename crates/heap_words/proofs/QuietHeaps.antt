@@ -5,13 +5,13 @@ use Rattle.std.specs.Option.{option_and_then}
 use Rattle.std.proofs.lemmas.Bool.{and_from, or_right, lt-ltb, eqb-true, cases_eq}
 use Rattle.std.proofs.lemmas.List.{length-set}
 use Rattle.std.proofs.lemmas.Option.{cond_some, slice_get_within, same_Some}
-use Rattle.heap_words.specs.Cells.{decoded, code, is_final_word}
+use Rattle.heap_words.specs.Cells.{decoded, encoded, is_final_word}
 use Rattle.heap_words.specs.Refers.{Refers, teller}
 use Rattle.heap_words.specs.Heaps.{IsHeap, RefersInside, AreFresh, fresh_word, top_said, top_at, is_inside, inside_at, only_final, final_at}
 use Rattle.heap_words.specs.declared.cell.Cell.{Cell}
 use Rattle.heap_words.specs.declared.cell.Cell.TheVariants.{Unbound, Ref, RoRef, Small, Wide, Str, Nil, Cons, Tuple, Status, Raw, Top}
 use Rattle.heap_words.specs.declared.cell.Stand.{Stand}
-use Rattle.heap_words.proofs.Codes.{decoded_code}
+use Rattle.heap_words.proofs.Encodings.{decoded_encoded}
 
 -- elements of a list after a write
 pub slice_get-set_same : (xs : List ℕ) (i v : ℕ) → i < length xs → slice_get (set xs i v) i ≡ Some v
@@ -132,14 +132,14 @@ decoded_zero = refl
 fresh_is_quiet : (a : ℕ) → a < 4000000000 → IsQuiet (fresh_word a)
 fresh_is_quiet a h = go (nat_eq (a % 1024) 0)
   where
-    go : (t : Bool) → IsQuiet (cond t (code (Top (a + 1))) 0)
-    go true = record { cell = Top (a + 1); says = decoded_code (Top (a + 1)) (omega arith); quiet = refl }
+    go : (t : Bool) → IsQuiet (cond t (encoded (Top (a + 1))) 0)
+    go true = record { cell = Top (a + 1); says = decoded_encoded (Top (a + 1)) (omega arith); quiet = refl }
     go false = record { cell = Unbound 0; says = decoded_zero; quiet = refl }
 
 fresh_top : (n a : ℕ) (ws : List ℕ) → AreFresh n ws → a < n → a < 4000000000 → a % 1024 ≡ 0 → top_at ws a ≡ a + 1
 fresh_top n a ws f h b m =
-    ap (λ o. top_said (option_and_then decoded o)) (f.each a h ∙ ap (λ r. Some (cond (nat_eq r 0) (code (Top (a + 1))) 0)) m)
-    ∙ ap top_said (decoded_code (Top (a + 1)) (omega arith))
+    ap (λ o. top_said (option_and_then decoded o)) (f.each a h ∙ ap (λ r. Some (cond (nat_eq r 0) (encoded (Top (a + 1))) 0)) m)
+    ∙ ap top_said (decoded_encoded (Top (a + 1)) (omega arith))
 
 page_top : (pages p : ℕ) (ws : List ℕ) → pages ≤ 3906250 → AreFresh (1024 * pages) ws → p < pages → top_at ws (1024 * p) ≡ 1024 * p + 1
 page_top pages p ws few f h = fresh_top (1024 * pages) (1024 * p) ws f (omega arith) (omega arith) (omega arith)
@@ -183,27 +183,27 @@ quiet_word pages ws i v q off w = record {
     other p e = off (omega arith)
 
 -- a page's top is raised
-pub new_top : (ws : List ℕ) (i t : ℕ) → i < length ws → t < 0x100000000 → top_at (set ws i (code (Top t))) i ≡ t
-new_top ws i t h b = ap (λ o. top_said (option_and_then decoded o)) (slice_get-set_same ws i (code (Top t)) h) ∙ ap top_said (decoded_code (Top t) b)
+pub new_top : (ws : List ℕ) (i t : ℕ) → i < length ws → t < 0x100000000 → top_at (set ws i (encoded (Top t))) i ≡ t
+new_top ws i t h b = ap (λ o. top_said (option_and_then decoded o)) (slice_get-set_same ws i (encoded (Top t)) h) ∙ ap top_said (decoded_encoded (Top t) b)
 
-pub quiet_top : (pages : ℕ) (ws : List ℕ) (i t : ℕ) → AreQuiet pages ws → i < 1024 * pages → i < t → t ≤ i + 1024 → AreQuiet pages (set ws i (code (Top t)))
+pub quiet_top : (pages : ℕ) (ws : List ℕ) (i t : ℕ) → AreQuiet pages ws → i < 1024 * pages → i < t → t ≤ i + 1024 → AreQuiet pages (set ws i (encoded (Top t)))
 quiet_top pages ws i t q there lo hi =
     let few : pages ≤ 3906250 = q.few in
     let fits : t < 0x100000000 = omega arith in
     let in_list : i < length ws = subst (λ (n : ℕ). i < n) (sym q.size) there in
-    let new : top_at (set ws i (code (Top t))) i ≡ t = new_top ws i t in_list fits in
+    let new : top_at (set ws i (encoded (Top t))) i ≡ t = new_top ws i t in_list fits in
     record {
-      size = length-set ws i (code (Top t)) ∙ q.size;
+      size = length-set ws i (encoded (Top t)) ∙ q.size;
       few = q.few;
       above = λ p h. ⊎_elim
-          (λ e. subst (λ (k : ℕ). k < top_at (set ws i (code (Top t))) k) (sym e) (subst (λ (n : ℕ). i < n) (sym new) lo))
-          (λ d. subst (λ (n : ℕ). 1024 * p < n) (sym (same_top ws i (code (Top t)) (1024 * p) d)) (q.above p h))
+          (λ e. subst (λ (k : ℕ). k < top_at (set ws i (encoded (Top t))) k) (sym e) (subst (λ (n : ℕ). i < n) (sym new) lo))
+          (λ d. subst (λ (n : ℕ). 1024 * p < n) (sym (same_top ws i (encoded (Top t)) (1024 * p) d)) (q.above p h))
           (cases_eq (1024 * p) i);
       within = λ p h. ⊎_elim
-          (λ e. subst (λ (k : ℕ). top_at (set ws i (code (Top t))) k ≤ k + 1024) (sym e) (subst (λ (n : ℕ). n ≤ i + 1024) (sym new) hi))
-          (λ d. subst (λ (n : ℕ). n ≤ 1024 * p + 1024) (sym (same_top ws i (code (Top t)) (1024 * p) d)) (q.within p h))
+          (λ e. subst (λ (k : ℕ). top_at (set ws i (encoded (Top t))) k ≤ k + 1024) (sym e) (subst (λ (n : ℕ). n ≤ i + 1024) (sym new) hi))
+          (λ d. subst (λ (n : ℕ). n ≤ 1024 * p + 1024) (sym (same_top ws i (encoded (Top t)) (1024 * p) d)) (q.within p h))
           (cases_eq (1024 * p) i);
-      each = set_each ws i (code (Top t)) (record { cell = Top t; says = decoded_code (Top t) fits; quiet = refl }) q.each;
+      each = set_each ws i (encoded (Top t)) (record { cell = Top t; says = decoded_encoded (Top t) fits; quiet = refl }) q.each;
     }
 
 -- an address below its page's top is inside

@@ -6,10 +6,10 @@ use Rattle.heap_words.specs.declared.cell.Stand.{Stand}
 use Rattle.heap_words.specs.declared.cell.Stand.TheVariants.{Ready, Waiting, Done}
 
 -- the number of a stand
-abbrev pub stand_code : Stand → ℕ
-stand_code Ready = 0
-stand_code Done = 1
-stand_code (Waiting n) = 2 + n
+abbrev pub encoded_stand : Stand → ℕ
+encoded_stand Ready = 0
+encoded_stand Done = 1
+encoded_stand (Waiting n) = 2 + n
 
 -- a small number, raised by 2^55
 abbrev pub raised : ℤ → ℕ
@@ -46,13 +46,13 @@ says (Str s) = s.0
 says Nil = 0
 says (Cons a) = a
 says (Tuple a) = a
-says (Status d) = stand_code d
+says (Status d) = encoded_stand d
 says (Raw n) = n
 says (Top a) = a
 
 -- the word of a cell
-abbrev pub code : Cell → ℕ
-code c = 16 * says c + tag c
+abbrev pub encoded : Cell → ℕ
+encoded c = 16 * says c + tag c
 
 -- the ranges of a cell's fields
 abbrev pub IsCell : Cell → Type 0

@@ -4,7 +4,7 @@ use Rattle.std.proofs.Common.{sym, ◌∙◌, ap, subst, arith, cond}
 use Rattle.std.proofs.lemmas.Bool.{and_parts, ltb-true}
 use Rattle.heap_words.specs.Cells.{decoded}
 use Rattle.heap_words.specs.Refers.{Refers, teller}
-use Rattle.heap_words.specs.Loading.{WordsLaws, tells_all}
+use Rattle.heap_words.specs.WordsLaws.{WordsLaws, tells_all}
 use Rattle.heap_words.specs.Heaps.{IsHeap, RefersInside, is_inside, inside_at, only_final, final_at, top_at}
 use Rattle.heap_words.specs.declared.cell.Cell.{Cell}
 use Rattle.heap_words.specs.declared.heap.PlainHeap.{PlainHeap}

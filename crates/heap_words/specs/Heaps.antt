@@ -1,9 +1,9 @@
 -- The words of a plain heap: pages of 1,024 words, of which the first is the page's top.
 use Rattle.std.specs.Prelude.{◌≡◌, ℕ, ◌+◌, ◌-◌, ◌*◌, ◌%◌, ◌<◌, ◌≤◌, ◌&&◌, ◌||◌, Bool, true, List, Option, Some, None, if◌then◌else◌, nat_eq, nat_lt, slice_get, length}
 use Rattle.std.specs.Option.{option_and_then}
-use Rattle.heap_words.specs.Cells.{decoded, code, is_final_word}
+use Rattle.heap_words.specs.Cells.{decoded, encoded, is_final_word}
 use Rattle.heap_words.specs.Refers.{Refers, teller, RefersBy}
-use Rattle.heap_words.specs.Loading.{Acyclic}
+use Rattle.heap_words.specs.WordsLaws.{Acyclic}
 use Rattle.heap_words.specs.declared.cell.Cell.{Cell}
 use Rattle.heap_words.specs.declared.cell.Cell.TheVariants.{Status, Raw, Top}
 use Rattle.heap_words.specs.declared.cell.Stand.{Stand}
@@ -57,7 +57,7 @@ pub record IsHeap (ws : List ℕ) : Type 0 where
 
 -- the word that a new heap has at an address: a top that says the next address, or an unbound place
 abbrev pub fresh_word : ℕ → ℕ
-fresh_word a = if nat_eq (a % 1024) 0 then code (Top (a + 1)) else 0
+fresh_word a = if nat_eq (a % 1024) 0 then encoded (Top (a + 1)) else 0
 
 -- the first words of a new heap
 pub record AreFresh (n : ℕ) (ws : List ℕ) : Type 0 where

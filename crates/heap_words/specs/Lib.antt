@@ -1,6 +1,6 @@
 pub mod Cells
 pub mod Refers
-pub mod Loading
+pub mod WordsLaws
 pub mod Trails
 pub mod Heaps
 pub mod HeapLaws

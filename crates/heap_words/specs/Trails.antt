@@ -7,40 +7,40 @@ abbrev pub Memory : Type 0
 Memory = ℕ → ℕ
 
 -- addresses with their words
-abbrev pub Seen : Type 0
-Seen = List (ℕ × ℕ)
+abbrev pub WordList : Type 0
+WordList = List (ℕ × ℕ)
 
 -- the word that a list has at an address
-abbrev pub word_at : Seen → ℕ → Option ℕ
+abbrev pub word_at : WordList → ℕ → Option ℕ
 word_at seen a = lookup (nat_eq a) seen
 
 -- the memory under private bindings
-abbrev pub under : Seen → Memory → Memory
+abbrev pub under : WordList → Memory → Memory
 under binds m a = unwrap_or (word_at binds a) (m a)
 
 -- The memory has the kept words and the own words. No moment of a store that others write need have all words that a try
 -- kept: what a try says, it says of every memory that agrees with them.
-pub record Agrees (own : ℕ → Option ℕ) (kept : Seen) (m : Memory) : Type 0 where
+pub record Agrees (own : ℕ → Option ℕ) (kept : WordList) (m : Memory) : Type 0 where
   pub kept_same : (a x : ℕ) → word_at kept a ≡ Some x → m a ≡ x
   pub own_same : (a x : ℕ) → own a ≡ Some x → m a ≡ x
 
 -- so of every memory that agrees with what was kept
-abbrev pub Says : (ℕ → Option ℕ) → Seen → (Memory → Type 0) → Type 0
+abbrev pub Says : (ℕ → Option ℕ) → WordList → (Memory → Type 0) → Type 0
 Says own kept P = (m : Memory) → Agrees own kept m → P m
 
 -- the kept words were loaded, and the bindings lead to known addresses alone
-pub record Holds {S : Type 0} (had : S → ℕ → ℕ → Type 0) (leads : S → ℕ → Type 0) (kept binds : Seen) (w : S) : Type 0 where
+pub record Holds {S : Type 0} (had : S → ℕ → ℕ → Type 0) (leads : S → ℕ → Type 0) (kept binds : WordList) (w : S) : Type 0 where
   pub kept_had : (a x : ℕ) → word_at kept a ≡ Some x → had w a x
   pub bound_leads : (a x : ℕ) → word_at binds a ≡ Some x → leads w x
 
 -- only loads lie between, and what the trail kept besides was loaded there and is none of a try's own words
-pub record Went {S : Type 0} (later : S → S → Type 0) (gave : S → S → ℕ → ℕ → Type 0) (kept : Seen) (w : S) (kept' : Seen) (w' : S) : Type 0 where
+pub record Went {S : Type 0} (later : S → S → Type 0) (gave : S → S → ℕ → ℕ → Type 0) (kept : WordList) (w : S) (kept' : WordList) (w' : S) : Type 0 where
   pub between : later w w'
   pub grows : (a x : ℕ) → word_at kept a ≡ Some x → word_at kept' a ≡ Some x
   pub given : (a x : ℕ) → word_at kept' a ≡ Some x → (word_at kept a ≡ Some x) ⊎ (gave w w' a x × (a < 4000000000))
 
 -- only loads lie between, and the trail kept what they gave
-pub record Loaded {S : Type 0} (is_sound : S → Type 0) (had : S → ℕ → ℕ → Type 0) (leads : S → ℕ → Type 0) (later : S → S → Type 0) (gave : S → S → ℕ → ℕ → Type 0) (kept binds : Seen) (w : S) (kept' binds' : Seen) (w' : S) : Type 0 where
+pub record KeepsLoads {S : Type 0} (is_sound : S → Type 0) (had : S → ℕ → ℕ → Type 0) (leads : S → ℕ → Type 0) (later : S → S → Type 0) (gave : S → S → ℕ → ℕ → Type 0) (kept binds : WordList) (w : S) (kept' binds' : WordList) (w' : S) : Type 0 where
   pub sound : is_sound w'
   pub went : Went later gave kept w kept' w'
   pub holds : Holds had leads kept' binds' w'

@@ -17,7 +17,7 @@
 //! | 10  | Raw     | a number                                    | 2^32 - 1    | Raw(5) is 5a                 |
 //! | 11  | Top     | an address                                  | 2^32 - 1    | Top(5) is 5b                 |
 ghost use Rattle.std.specs.Prelude.{◌≡◌, Some, IfSome, IfNone};
-ghost use Rattle.heap_words.specs.Cells.{IsCell, code, stand_code, decoded, stand_of, plain_of, is_final_word};
+ghost use Rattle.heap_words.specs.Cells.{IsCell, encoded, encoded_stand, decoded, stand_of, plain_of, is_final_word};
 ghost use Rattle.heap_words.specs.declared.cell.Cell.{Cell};
 
 use fcp_model::Sym;
@@ -97,7 +97,7 @@ const ADDRESSES: u64 = 0x1_0000_0000;
 /// The word of a cell. A `Small` has to be from -2^55 to 2^55 - 1.
 pub fn encode(cell: Cell) -> u64
     requires { IsCell cell }
-    ensures value { result ≡ code cell }
+    ensures value { result ≡ encoded cell }
     ensures back { decoded result ≡ Some cell }
 {
     word_of(cell)
@@ -106,7 +106,7 @@ pub fn encode(cell: Cell) -> u64
 /// The word of a cell, by its kind.
 fn word_of(cell: Cell) -> u64
     requires { IsCell cell }
-    ensures { result ≡ code cell }
+    ensures { result ≡ encoded cell }
 {
     match cell {
         Cell::Unbound(first) => TAGS * first as u64 + UNBOUND,
@@ -126,7 +126,7 @@ fn word_of(cell: Cell) -> u64
 
 /// The number of a stand.
 fn stand_number(stand: Stand) -> u64
-    ensures { result ≡ stand_code stand }
+    ensures { result ≡ encoded_stand stand }
 {
     match stand {
         Stand::Ready => 0,
@@ -139,8 +139,8 @@ fn stand_number(stand: Stand) -> u64
 #[tactic(auto, unfolding(crate::specs::Cells::decoded))]
 pub fn decode(word: u64) -> Option<Cell>
     ensures value { result ≡ decoded word }
-    ensures cell { IfSome result (λ c. IsCell c × (code c ≡ word)) }
-    ensures none { IfNone result ((c : Cell) → IsCell c → code c ≡ word → ⊥) }
+    ensures cell { IfSome result (λ c. IsCell c × (encoded c ≡ word)) }
+    ensures none { IfNone result ((c : Cell) → IsCell c → encoded c ≡ word → ⊥) }
 {
     let says = word / TAGS;
     match word % TAGS {

@@ -1,6 +1,6 @@
 //! The trail of a try: what it bound privately, what it read unbound, and the words that it loaded.
-ghost use Rattle.std.specs.Prelude.{◌≡◌, ◌++◌, [], ◌∷◌, ◌≤◌, None, IfOk, OnOk, slice_get, option_map};
-ghost use Rattle.heap_words.specs.Trails.{word_at, under, Holds, Loaded, Says};
+ghost use Rattle.std.specs.Prelude.{◌≡◌, ◌++◌, [], ◌∷◌, ◌≤◌, None, IfOk, OnOk, OnErr, MatchResult, slice_get, option_map};
+ghost use Rattle.heap_words.specs.Trails.{word_at, under, Holds, KeepsLoads, Says};
 
 use crate::words::Words;
 use fcp_model::NoMemory;
@@ -33,10 +33,11 @@ impl Trail {
         })
     }
 
-    /// Keeps a loaded word.
+    /// Keeps a loaded word. Where memory runs out, the trail stays as it was.
     fn keep(&mut self, addr: u32, word: u64) -> Result<(), NoMemory>
         requires { word_at self.old.kept.entries addr ≡ None }
-        ensures kept { OnOk result (self.new.kept.entries ≡ self.old.kept.entries ++ (addr, word) ∷ []) }
+        ensures kept { MatchResult result (λ _. self.new.kept.entries ≡ self.old.kept.entries ++ (addr, word) ∷ [])
+            (λ _. self.new.kept.entries ≡ self.old.kept.entries) }
         ensures binds { self.new.binds.entries ≡ self.old.binds.entries }
         ensures reads { self.new.reads.items ≡ self.old.reads.items }
     {
@@ -47,7 +48,7 @@ impl Trail {
     }
 
     /// The word at a known address, with no look at private bindings. It is kept from now on, where it is none of the
-    /// try's own pieces.
+    /// try's own pieces. Where memory runs out, the trail stays as it was.
     pub fn word<W: Words>(&mut self, words: &mut W, addr: u32) -> Result<u64, NoMemory>
         requires sound { W.sound words.old }
         requires known { W.knows words.old addr }
@@ -55,7 +56,8 @@ impl Trail {
         ensures between { W.later words.old words.new }
         ensures binds { self.new.binds.entries ≡ self.old.binds.entries }
         ensures reads { self.new.reads.items ≡ self.old.reads.items }
-        ensures loaded { OnOk result (Loaded W.sound W.had W.leads W.later W.gave self.old.kept.entries self.old.binds.entries words.old self.new.kept.entries self.new.binds.entries words.new) }
+        ensures loaded { OnOk result (KeepsLoads W.sound W.had W.leads W.later W.gave self.old.kept.entries self.old.binds.entries words.old self.new.kept.entries self.new.binds.entries words.new) }
+        ensures stays { OnErr result (self.new.kept.entries ≡ self.old.kept.entries) }
         ensures word { IfOk result (λ x. Says (W.own words.new) self.new.kept.entries (λ m. m addr ≡ x)) }
         ensures had { IfOk result (λ x. W.had words.new addr x) }
     {
@@ -84,7 +86,8 @@ impl Trail {
         ensures between { W.later words.old words.new }
         ensures binds { self.new.binds.entries ≡ self.old.binds.entries }
         ensures reads { self.new.reads.items ≡ self.old.reads.items }
-        ensures loaded { OnOk result (Loaded W.sound W.had W.leads W.later W.gave self.old.kept.entries self.old.binds.entries words.old self.new.kept.entries self.new.binds.entries words.new) }
+        ensures loaded { OnOk result (KeepsLoads W.sound W.had W.leads W.later W.gave self.old.kept.entries self.old.binds.entries words.old self.new.kept.entries self.new.binds.entries words.new) }
+        ensures stays { OnErr result (self.new.kept.entries ≡ self.old.kept.entries) }
         ensures word { IfOk result (λ x. Says (W.own words.new) self.new.kept.entries (λ m. under self.old.binds.entries m addr ≡ x)) }
         ensures leads { IfOk result (λ x. W.leads words.new x) }
     {
@@ -94,10 +97,11 @@ impl Trail {
         }
     }
 
-    /// Binds an address that is not bound privately.
+    /// Binds an address that is not bound privately. Where memory runs out, the trail stays as it was.
     pub fn bind(&mut self, addr: u32, word: u64) -> Result<(), NoMemory>
         requires { word_at self.old.binds.entries addr ≡ None }
-        ensures binds { OnOk result (self.new.binds.entries ≡ self.old.binds.entries ++ (addr, word) ∷ []) }
+        ensures binds { MatchResult result (λ _. self.new.binds.entries ≡ self.old.binds.entries ++ (addr, word) ∷ [])
+            (λ _. self.new.binds.entries ≡ self.old.binds.entries) }
         ensures reads { self.new.reads.items ≡ self.old.reads.items }
         ensures kept { self.new.kept.entries ≡ self.old.kept.entries }
     {
@@ -107,10 +111,11 @@ impl Trail {
         }
     }
 
-    /// Notes that a place was read unbound.
+    /// Notes that a place was read unbound. Where memory runs out, the trail stays as it was.
     pub fn note_read(&mut self, place: u32) -> Result<(), NoMemory>
         ensures binds { self.new.binds.entries ≡ self.old.binds.entries }
-        ensures reads { OnOk result (self.new.reads.items ≡ self.old.reads.items ++ place ∷ []) }
+        ensures reads { MatchResult result (λ _. self.new.reads.items ≡ self.old.reads.items ++ place ∷ [])
+            (λ _. self.new.reads.items ≡ self.old.reads.items) }
         ensures kept { self.new.kept.entries ≡ self.old.kept.entries }
     {
         match self.reads.push(place) {

@@ -1,7 +1,7 @@
 //! What generic code asks of words that it loads.
 ghost use Rattle.std.specs.Prelude.{◌≡◌, ◌≤◌, ℕ, Option, Some, true};
 ghost use Rattle.heap_words.specs.Cells.{is_final_word};
-ghost use Rattle.heap_words.specs.Loading.{WordsLaws};
+ghost use Rattle.heap_words.specs.WordsLaws.{WordsLaws};
 
 /// Words that can be loaded by their addresses, from 0. Between two loads others may write words that are not final.
 pub trait Words {

@@ -4,4 +4,5 @@ pub mod MemoryShelves
 pub mod MemorySinks
 pub mod Shelves
 pub mod Sinks
+pub mod Streams
 pub mod System

@@ -2,14 +2,11 @@ ghost use Rattle.std.specs.Prelude.{◌≡◌, None};
 ghost use Rattle.logix_edge.specs.Shelves.{IsWithin};
 
 use crate::faults::Faults;
+use crate::streams::read_up_to;
 use crate::{Fetched, Shelf};
 use std::alloc::Global;
 use std::fs;
-use std::io::Read;
 use std::rt::Files;
-
-/// How many bytes one read asks for.
-const BUFFER: usize = 4096;
 
 /// The files of the system, by their paths. It makes no promise on what a file holds, nor that two fetches of a name
 /// give the same bytes. Each error of the system is a fault.
@@ -58,34 +55,20 @@ impl<'a, R: Files> Shelf for FileShelf<'a, R> {
     }
 }
 
-/// Reads a file to its end, or until it has more bytes than the limit.
-fn read_file<R: Files>(rt: &R, alloc: Global, name: &str, limit: u64) -> Fetched
+/// Opens the file of exactly this path, and reads it up to the limit.
+fn read_file<R: Files>(rt: &R, alloc: Global, path: &str, limit: u64) -> Fetched
     ensures { IsWithin limit result }
 {
-    let Ok(mut file) = fs::open(rt, name) else {
-        return Fetched::Failed;
-    };
-    let mut bytes = Vec::new(alloc);
-    let mut buffer = [0u8; BUFFER];
-    loop {
-        let Ok(count) = file.read(&mut buffer) else {
-            return Fetched::Failed;
-        };
-        if count == 0 {
-            return Fetched::Bytes(bytes);
-        }
-        if count as u64 > limit - bytes.len() as u64 {
-            return Fetched::TooLong;
-        }
-        if bytes.extend_from_slice(&buffer[..count]).is_err() {
-            return Fetched::NoMemory;
-        }
+    match fs::open(rt, path) {
+        Ok(mut file) => read_up_to(alloc, &mut file, limit),
+        Err(_) => Fetched::Failed,
     }
 }
 
 #[cfg(test)]
 mod tests {
     use super::*;
+    use crate::streams::BUFFER;
     use std::test::Fail;
 
     const PATH: &str = "logix_edge_test_file";

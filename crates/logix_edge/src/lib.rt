@@ -9,6 +9,9 @@ mod memory_sink;
 mod out_sink;
 mod shelf;
 mod sink;
+mod streams;
+#[cfg(test)]
+mod tests;
 
 pub use file_shelf::FileShelf;
 pub use memory_shelf::MemoryShelf;
@@ -16,3 +19,4 @@ pub use memory_sink::MemorySink;
 pub use out_sink::OutSink;
 pub use shelf::{Fetched, Shelf};
 pub use sink::{Put, Sink, SinkFailed};
+pub use streams::{read_up_to, write_whole};

@@ -1,6 +1,8 @@
 ghost use Rattle.std.specs.Prelude.{◌≡◌, None};
 
+use crate::streams::write_whole;
 use crate::{Put, Sink};
+use std::io;
 
 /// Standard output. It does not tell what it has written. Each error of the system, and each write that takes nothing,
 /// is a fault.
@@ -29,17 +31,11 @@ impl<'a, R: Print> Sink for OutSink<'a, R> {
     ghost faults = { out_faults };
 
     fn put(&mut self, piece: &[u8]) -> Put {
-        let mut rest = piece;
-        while !rest.is_empty() {
-            match self.rt.write_some(rest) {
-                Ok(count) if count > 0 => rest = &rest[count..],
-                _ => {
-                    self.faults = self.faults.saturating_add(1);
-                    return Put::Failed;
-                }
-            }
+        let put = write_whole(&mut io::writer(self.rt), piece);
+        if let Put::Failed = put {
+            self.faults = self.faults.saturating_add(1);
         }
-        Put::Done
+        put
     }
 }
 

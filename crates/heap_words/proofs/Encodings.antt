@@ -5,7 +5,7 @@ use Rattle.std.proofs.lemmas.Int.{ints}
 use Rattle.std.proofs.lemmas.Bool.{ltb-true, eqb-true, eqb-false}
 use Rattle.std.proofs.lemmas.Bool.Decides.{nat_tests}
 use Rattle.std.proofs.lemmas.Option.{cond_some}
-use Rattle.heap_words.specs.Cells.{code, tag, says, IsCell, decoded, cell_of, plain_of, stand_of, raised, lowered}
+use Rattle.heap_words.specs.Cells.{encoded, tag, says, IsCell, decoded, cell_of, plain_of, stand_of, raised, lowered}
 use Rattle.heap_words.specs.declared.cell.Cell.{Cell}
 use Rattle.heap_words.specs.declared.cell.Cell.TheVariants.{Unbound, Ref, RoRef, Small, Wide, Str, Nil, Cons, Tuple, Status, Raw, Top}
 use Rattle.heap_words.specs.declared.cell.Stand.TheVariants.{Ready, Waiting, Done}
@@ -61,9 +61,9 @@ says_back : (x t : ℕ) → t < 16 → (16 * x + t) / 16 ≡ x
 says_back x t h = omega arith
 
 -- the word of a cell has the cell
-pub decoded_code : (c : Cell) → IsCell c → decoded (code c) ≡ Some c
+pub decoded_encoded : (c : Cell) → IsCell c → decoded (encoded c) ≡ Some c
 unfolding decoded
-decoded_code c i =
+decoded_encoded c i =
     ap (λ t. cell_of t ((16 * says c + tag c) / 16)) (tag_back (says c) (tag c) (tag_below c)) ∙ (ap (cell_of (tag c)) (says_back (says c) (tag c) (tag_below c)) ∙ cell_of_says c i)
 
 -- what a cell of a word says
@@ -146,6 +146,6 @@ word_back : (w t x : ℕ) → t ≡ w % 16 → x ≡ w / 16 → 16 * x + t ≡ w
 word_back w t x h i = omega arith
 
 -- a word that has a cell is the cell's
-pub code_decoded : (w : ℕ) (c : Cell) → decoded w ≡ Some c → IsCell c × (code c ≡ w)
+pub encoded_decoded : (w : ℕ) (c : Cell) → decoded w ≡ Some c → IsCell c × (encoded c ≡ w)
 unfolding decoded
-code_decoded w c e = let s = says_of (w % 16) (w / 16) c e in (s.fits, word_back w (tag c) (says c) s.tags s.said)
+encoded_decoded w c e = let s = says_of (w % 16) (w / 16) c e in (s.fits, word_back w (tag c) (says c) s.tags s.said)

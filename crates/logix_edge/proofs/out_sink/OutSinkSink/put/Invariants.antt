@@ -1,9 +1,0 @@
-use Rattle.std.proofs.Common.{◌≡◌, length}
-use Rattle.logix_edge.proofs.out_sink.OutSinkSink.put.Given as goal
-
--- no fault was counted yet
-abbrev pub invariant-loop-rest : goal.invariant-loop-rest
-invariant-loop-rest g l = l.self.faults ≡ l.fn.self.faults
-
-abbrev pub decreases-loop-rest : goal.decreases-loop-rest
-decreases-loop-rest g l = length l.rest
