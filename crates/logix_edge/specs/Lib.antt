@@ -1,4 +1,5 @@
 pub mod Causes
+pub mod Gathering
 pub mod LastFailed
 pub mod MemoryShelves
 pub mod MemorySinks

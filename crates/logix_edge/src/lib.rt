@@ -4,6 +4,7 @@
 mod calls;
 mod faults;
 mod file_shelf;
+mod gathered;
 mod memory_shelf;
 mod memory_sink;
 mod out_sink;
@@ -14,6 +15,7 @@ mod streams;
 mod tests;
 
 pub use file_shelf::FileShelf;
+pub use gathered::Gathered;
 pub use memory_shelf::MemoryShelf;
 pub use memory_sink::MemorySink;
 pub use out_sink::OutSink;

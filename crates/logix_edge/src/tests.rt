@@ -104,3 +104,13 @@ fn a_path_that_begins_with_a_point_is_opened_as_it_is(rt: HostRuntime) -> Result
     }
     Ok(())
 }
+
+#[test]
+fn pieces_are_gathered_in_order(rt: HostRuntime) {
+    let mut gathered = Gathered::make(rt.alloc());
+    for piece in [b"one".as_slice(), b"".as_slice(), b"three".as_slice()] {
+        assert_eq!(rt; gathered.put(piece), Put::Done);
+    }
+    let bytes = gathered.into_bytes();
+    assert_eq!(rt; bytes.as_slice(), b"onethree".as_slice());
+}
