@@ -26,12 +26,12 @@ module _ {I : Type 0} {G : Type 0} (f : G → Goal Variable) (g : I → G) (n : 
   one_child items i it base old new p h at is more made =
       let long : length (goals (take i items)) ≡ i =
       length-map (map g (take i items)) f ∙ (length-map (take i items) g ∙ length-take-le i items (omega arith)) in
-      let place : 1 + length (goals (take i items)) ≡ i + 1 = omega (arith, long) in
+      let number : 1 + length (goals (take i items)) ≡ i + 1 = omega (arith, long) in
       let end : goals (take (i + 1) items) ≡ goals (take i items) ++ f (g it) ∷ [] =
       ap goals (take_more items i it h ∙ ap (λ x. take i items ++ x ∷ []) (sym at))
       ∙ (ap (map f) (map-append g (take i items) (it ∷ [])) ∙ map-append f (map g (take i items)) (g it ∷ [])) in
       let whole : run.processes_of n 1 (goals (take (i + 1) items)) ≡ run.processes_of n 1 (goals (take i items)) ++ p ∷ [] =
       ap (run.processes_of n 1) end ∙ (processes_of-append n 1 (goals (take i items)) (f (g it))
-      ∙ (ap (λ j. run.processes_of n 1 (goals (take i items)) ++ child_of (proc n j) (f (g it)) ∷ []) place
+      ∙ (ap (λ j. run.processes_of n 1 (goals (take i items)) ++ child_of (proc n j) (f (g it)) ∷ []) number
       ∙ ap (λ x. run.processes_of n 1 (goals (take i items)) ++ x ∷ []) (sym made))) in
       more ∙ (ap (λ ps. ps ++ p ∷ []) is ∙ (append_assoc base _ _ ∙ ap (λ ps. base ++ ps) (sym whole)))
