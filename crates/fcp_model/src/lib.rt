@@ -26,6 +26,3 @@ pub use seq::Seq;
 pub use source::{Call, Clause, Export, GoalText, Item, Module};
 pub use term::{ArithOp, CompareOp, Expr, Term};
 pub use text::Text;
-
-#[cfg(test)]
-mod tests;

@@ -12,8 +12,6 @@ mod first_form;
 mod lines;
 mod loading;
 mod status;
-#[cfg(test)]
-mod tests;
 mod words;
 mod writing;
 

@@ -1,0 +1,107 @@
+use fcp_model::{Outcome, Seq};
+use logix_app::{Status, run_alone};
+use logix_edge::{MemoryShelf, MemorySink};
+use std::alloc::Global;
+use std::test::Fail;
+
+const NONE: &[u32] = &[];
+
+const FIRST: &[u32] = &[1];
+
+/// The words of a line, with one space between two.
+fn words_in(alloc: Global, line: &str) -> Result<Vec<String>, Fail> {
+    let mut words = Vec::new(alloc);
+    for word in line.split(' ') {
+        words.push(String::from_str(alloc, word)?)?;
+    }
+    Ok(words)
+}
+
+/// A shelf with one file, `f`.
+fn shelf_of(alloc: Global, file: &[u8], fails: &[u32]) -> Result<MemoryShelf, Fail> {
+    let name = String::from_str(alloc, "f")?;
+    let names = Seq::of(Vec::from_array(alloc, [name])?);
+    let text = Vec::from_slice(alloc, file)?;
+    let texts = Seq::of(Vec::from_array(alloc, [text])?);
+    let fails = Seq::of(Vec::from_slice(alloc, fails)?);
+    Ok(MemoryShelf::make(alloc, names, texts, fails))
+}
+
+/// A sink of so much room.
+fn sink_of(alloc: Global, room: usize, fails: &[u32]) -> Result<MemorySink, Fail> {
+    let fails = Seq::of(Vec::from_slice(alloc, fails)?);
+    Ok(MemorySink::make(alloc, room, fails)?)
+}
+
+/// How a line of words is answered over the file. The sink keeps what was put.
+fn answered(
+    alloc: Global,
+    line: &str,
+    file: &[u8],
+    shelf_fails: &[u32],
+    sink: &mut MemorySink,
+) -> Result<Status, Fail> {
+    let words = words_in(alloc, line)?;
+    let mut shelf = shelf_of(alloc, file, shelf_fails)?;
+    Ok(run_alone(alloc, words.as_slice(), &mut shelf, sink))
+}
+
+/// The report of `p(X)` has 66 bytes, and the line `logix: not in this form` has 24.
+#[test]
+fn calls_that_fail_are_told(rt: HostRuntime) -> Result<(), Fail> {
+    let report =
+        b"logix log 1\n1 commit #0.1 1 _0.1=a\nend 1\noutcome terminated\nX = a\n".as_slice();
+    let form = b"logix: not in this form\n".as_slice();
+    let shelf = b"logix: shelf fault\n".as_slice();
+    let done = Status::Ended(Outcome::Terminated);
+    let rows = [
+        ("run f p(X)", NONE, NONE, 66, done, report),
+        ("run f p(X)", FIRST, NONE, 66, Status::Shelf, shelf),
+        ("run f p(X)", NONE, FIRST, 66, Status::Sink, b""),
+        ("run f p(X)", NONE, NONE, 65, Status::Sink, b""),
+        ("run f true", NONE, NONE, 24, Status::Form, form),
+        ("run f true", NONE, NONE, 23, Status::Sink, b""),
+        ("run f true", FIRST, FIRST, 66, Status::Sink, b""),
+        ("show f", NONE, NONE, 6, Status::Shown, b"p(a).\n"),
+    ];
+    for (line, shelf_fails, sink_fails, room, status, text) in rows {
+        let mut sink = sink_of(rt.alloc(), room, sink_fails)?;
+        let given = answered(rt.alloc(), line, b"p(a).", shelf_fails, &mut sink)?;
+        assert_eq!(rt; given, status, "{line}");
+        assert_eq!(rt; sink.bytes(), text, "{line}");
+    }
+    Ok(())
+}
+
+/// Each of the first puts that fails: a front of the text is there, and not all of it.
+#[test]
+fn a_module_that_is_not_written_is_told(rt: HostRuntime) -> Result<(), Fail> {
+    let text = b"p(V1) :- q(V1).\nq(a).\n".as_slice();
+    for call in 1..4 {
+        let mut sink = sink_of(rt.alloc(), 100, &[call])?;
+        let given = answered(rt.alloc(), "show f", b"p(X):-q(X).q(a).", NONE, &mut sink)?;
+        assert_eq!(rt; given, Status::Sink, "{call}");
+        assert!(rt; text.starts_with(sink.bytes()), "{call}");
+        assert!(rt; sink.bytes().len() < text.len(), "{call}");
+    }
+    Ok(())
+}
+
+/// 64 processes, each of which makes 64 others: the report has more than 65,536 bytes, and the second put fails.
+#[test]
+fn pieces_have_65536_bytes(rt: HostRuntime) -> Result<(), Fail> {
+    let mut file = Vec::new(rt.alloc());
+    for (front, item) in [(b"p:-q".as_slice(), b",q".as_slice()), (b"q:-r", b",r")] {
+        file.extend_from_slice(front)?;
+        for _ in 0..63 {
+            file.extend_from_slice(item)?;
+        }
+        file.push(b'.')?;
+    }
+    file.extend_from_slice(b"r.")?;
+    let mut sink = sink_of(rt.alloc(), 1_000_000, &[2])?;
+    let given = answered(rt.alloc(), "run f p", file.as_slice(), NONE, &mut sink)?;
+    assert_eq!(rt; given, Status::Sink);
+    assert_eq!(rt; sink.bytes().len(), 65_536);
+    Ok(())
+}
