@@ -10,8 +10,6 @@ mod sides;
 mod stack;
 mod terminals;
 mod terms;
-#[cfg(test)]
-mod tests;
 
 pub use expressions::{LeftOperand, Level};
 pub use items::step_side;

@@ -9,8 +9,6 @@ mod modules;
 mod reading;
 mod sources;
 mod state;
-#[cfg(test)]
-mod tests;
 
 pub use laws::{
     fault_is_no_goal, fault_is_no_module, one_fault, one_goal, one_module, texts_keep_limits,

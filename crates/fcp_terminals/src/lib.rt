@@ -5,8 +5,6 @@ mod marks;
 mod places;
 mod strings;
 mod terminals;
-#[cfg(test)]
-mod tests;
 mod variables;
 
 pub use places::place_at;

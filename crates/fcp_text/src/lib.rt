@@ -9,8 +9,6 @@ mod marks;
 mod numbers;
 mod pieces;
 mod quotes;
-#[cfg(test)]
-mod tests;
 mod write_bytes;
 mod write_clauses;
 mod write_expressions;

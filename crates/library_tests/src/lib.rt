@@ -1,5 +1,15 @@
-//! Tests.
+//! Tests of the libraries, by what they make public. They stand here, so that no library is proved a second time for its tests.
 #![tactic(auto)]
 
 #[cfg(test)]
+mod edge;
+#[cfg(test)]
+mod grammar;
+#[cfg(test)]
 mod model;
+#[cfg(test)]
+mod reader;
+#[cfg(test)]
+mod terminals;
+#[cfg(test)]
+mod text;
