@@ -7,7 +7,5 @@ mod checks;
 mod guards;
 mod leaves;
 mod loading;
-#[cfg(test)]
-mod tests;
 
 pub use loading::{load, load_goal};

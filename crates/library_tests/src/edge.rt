@@ -1,6 +1,8 @@
-//! Tests of `logix_edge`.
+//! Tests of `logix_edge`: shelves and sinks.
 use fcp_model::Seq;
-use logix_edge::{Fetched, FileShelf, MemoryShelf, MemorySink, OutSink, Put, Shelf, Sink};
+use logix_edge::{
+    Fetched, FileShelf, Gathered, MemoryShelf, MemorySink, OutSink, Put, Shelf, Sink,
+};
 use std::alloc::Global;
 use std::cell::Cell;
 use std::fmt::Display;
@@ -101,6 +103,20 @@ fn a_file_of_several_buffers_is_read_up_to_the_limit(rt: HostRuntime) -> Result<
 }
 
 #[test]
+fn a_path_that_begins_with_a_point_is_opened_as_it_is(rt: HostRuntime) -> Result<(), Fail> {
+    fs::write(&rt, ".library_tests_hidden", "hidden")?;
+    fs::write(&rt, "library_tests_hidden", "plain")?;
+    let mut shelf = FileShelf::make(&rt);
+    let here = shelf.fetch(rt.alloc(), "./library_tests_hidden", 9);
+    let hidden = shelf.fetch(rt.alloc(), ".library_tests_hidden", 9);
+    fs::remove_file(&rt, ".library_tests_hidden")?;
+    fs::remove_file(&rt, "library_tests_hidden")?;
+    assert!(rt; holds(&here, b"plain"));
+    assert!(rt; holds(&hidden, b"hidden"));
+    Ok(())
+}
+
+#[test]
 fn a_write_that_takes_nothing_is_a_fault(rt: HostRuntime) {
     let narrow = Narrow { room: Cell::new(5) };
     let mut sink = OutSink::make(&narrow);
@@ -108,4 +124,14 @@ fn a_write_that_takes_nothing_is_a_fault(rt: HostRuntime) {
     assert_eq!(rt; narrow.room.get(), 2);
     assert_eq!(rt; sink.put(b"def"), Put::Failed);
     assert_eq!(rt; narrow.room.get(), 0);
+}
+
+#[test]
+fn pieces_are_gathered_in_order(rt: HostRuntime) {
+    let mut gathered = Gathered::make(rt.alloc());
+    for piece in [b"one".as_slice(), b"".as_slice(), b"three".as_slice()] {
+        assert_eq!(rt; gathered.put(piece), Put::Done);
+    }
+    let bytes = gathered.into_bytes();
+    assert_eq!(rt; bytes.as_slice(), b"onethree".as_slice());
 }

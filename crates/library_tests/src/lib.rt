@@ -10,6 +10,8 @@ mod model;
 #[cfg(test)]
 mod reader;
 #[cfg(test)]
+mod streams;
+#[cfg(test)]
 mod terminals;
 #[cfg(test)]
 mod text;

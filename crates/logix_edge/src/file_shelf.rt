@@ -64,37 +64,3 @@ fn read_file<R: Files>(rt: &R, alloc: Global, path: &str, limit: u64) -> Fetched
         Err(_) => Fetched::Failed,
     }
 }
-
-#[cfg(test)]
-mod tests {
-    use super::*;
-    use crate::streams::BUFFER;
-    use std::test::Fail;
-
-    const PATH: &str = "logix_edge_test_file";
-
-    #[test]
-    fn a_file_of_several_buffers_is_read_up_to_the_limit(rt: HostRuntime) -> Result<(), Fail> {
-        let text = vec![in rt.alloc(); b'x'; 3 * BUFFER]?;
-        fs::write(&rt, PATH, text.as_slice())?;
-        let mut shelf = FileShelf::make(&rt);
-        let whole = shelf.fetch(rt.alloc(), PATH, 3 * BUFFER as u64);
-        let cut = shelf.fetch(rt.alloc(), PATH, 3 * BUFFER as u64 - 1);
-        fs::remove_file(&rt, PATH)?;
-        let lacking = shelf.fetch(rt.alloc(), PATH, 3 * BUFFER as u64);
-        let Fetched::Bytes(bytes) = whole else {
-            return Err(Fail::from("no bytes"));
-        };
-        assert_eq!(rt; bytes.as_slice(), text.as_slice());
-        assert!(rt; matches!(cut, Fetched::TooLong));
-        assert!(rt; matches!(lacking, Fetched::Failed));
-        Ok(())
-    }
-
-    #[test]
-    fn a_folder_cannot_be_read(rt: HostRuntime) -> Result<(), Fail> {
-        let mut shelf = FileShelf::make(&rt);
-        assert!(rt; matches!(shelf.fetch(rt.alloc(), ".", 100), Fetched::Failed));
-        Ok(())
-    }
-}

@@ -11,8 +11,6 @@ mod out_sink;
 mod shelf;
 mod sink;
 mod streams;
-#[cfg(test)]
-mod tests;
 
 pub use file_shelf::FileShelf;
 pub use gathered::Gathered;

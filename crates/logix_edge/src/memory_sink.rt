@@ -79,32 +79,3 @@ impl Sink for MemorySink {
         Put::Done
     }
 }
-
-#[cfg(test)]
-mod tests {
-    use super::*;
-    use std::test::Fail;
-
-    #[test]
-    fn a_listed_put_fails_and_writes_nothing(rt: HostRuntime) -> Result<(), Fail> {
-        let mut fails = Seq::empty(rt.alloc());
-        assert!(rt; fails.push(2).is_ok());
-        let mut sink = MemorySink::make(rt.alloc(), 100, fails)?;
-        assert_eq!(rt; sink.put(b"one"), Put::Done);
-        assert_eq!(rt; sink.put(b"two"), Put::Failed);
-        assert_eq!(rt; sink.put(b"three"), Put::Done);
-        assert_eq!(rt; sink.bytes(), b"onethree".as_slice());
-        Ok(())
-    }
-
-    #[test]
-    fn a_piece_one_byte_above_the_room_fails(rt: HostRuntime) -> Result<(), Fail> {
-        let mut sink = MemorySink::make(rt.alloc(), 4, Seq::empty(rt.alloc()))?;
-        assert_eq!(rt; sink.put(b"12345"), Put::Failed);
-        assert_eq!(rt; sink.put(b"1234"), Put::Done);
-        assert_eq!(rt; sink.put(b"5"), Put::Failed);
-        assert_eq!(rt; sink.put(b""), Put::Done);
-        assert_eq!(rt; sink.bytes(), b"1234".as_slice());
-        Ok(())
-    }
-}

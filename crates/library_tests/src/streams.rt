@@ -1,8 +1,6 @@
-//! Readers and writers that take and give little at a time, or fail.
-use crate::{Fetched, FileShelf, Put, Shelf, read_up_to, write_whole};
-use std::fs;
+//! Tests of `logix_edge`: readers and writers that take and give little at a time, or fail.
+use logix_edge::{Fetched, Put, read_up_to, write_whole};
 use std::io::{self, ErrorKind, Read, Write};
-use std::test::Fail;
 
 /// A reader of six bytes that gives one byte, and then two at a time. The read of this number, from 1, fails.
 #[derive(Drop)]
@@ -85,32 +83,4 @@ fn short_writes_are_joined_and_a_failed_one_is_a_fault(rt: HostRuntime) {
     let mut front = Narrow { taken: 0, fails: 2 };
     assert_eq!(rt; write_whole(&mut front, b"abc"), Put::Failed);
     assert_eq!(rt; front.taken, 1);
-}
-
-#[test]
-fn a_path_that_begins_with_a_point_is_opened_as_it_is(rt: HostRuntime) -> Result<(), Fail> {
-    fs::write(&rt, ".logix_edge_hidden", "hidden")?;
-    fs::write(&rt, "logix_edge_hidden", "plain")?;
-    let mut shelf = FileShelf::make(&rt);
-    let here = shelf.fetch(rt.alloc(), "./logix_edge_hidden", 9);
-    let hidden = shelf.fetch(rt.alloc(), ".logix_edge_hidden", 9);
-    fs::remove_file(&rt, ".logix_edge_hidden")?;
-    fs::remove_file(&rt, "logix_edge_hidden")?;
-    for (fetched, text) in [(here, b"plain".as_slice()), (hidden, b"hidden".as_slice())] {
-        match fetched {
-            Fetched::Bytes(bytes) => assert_eq!(rt; bytes.as_slice(), text),
-            _ => return Err(Fail::from("no bytes")),
-        }
-    }
-    Ok(())
-}
-
-#[test]
-fn pieces_are_gathered_in_order(rt: HostRuntime) {
-    let mut gathered = Gathered::make(rt.alloc());
-    for piece in [b"one".as_slice(), b"".as_slice(), b"three".as_slice()] {
-        assert_eq!(rt; gathered.put(piece), Put::Done);
-    }
-    let bytes = gathered.into_bytes();
-    assert_eq!(rt; bytes.as_slice(), b"onethree".as_slice());
 }

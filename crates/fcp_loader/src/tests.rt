@@ -1,4 +1,0 @@
-mod build;
-mod goals;
-mod kinds;
-mod order;
