@@ -1,134 +1,154 @@
--- The first of all faults is the one that the checks find.
-use Rattle.std.proofs.Common.{◌≡◌, ℕ, Bool, cond, not, List, [], ◌∷◌, ◌++◌, map, filter, find, is_none, Option, Some, None, unwrap_or, All, IsSome, refl, ap, subst, sym, ◌∙◌}
-use Rattle.std.specs.List.{flat_map}
-use Rattle.std.specs.Option.{option_map, option_or, option_to_list}
-use Rattle.std.proofs.lemmas.List.Elements.{All-nil, All-cons}
-use Rattle.fcp_model.specs.declared.fault.Code.{Code}
-use Rattle.fcp_model.specs.declared.fault.Code.TheVariants.{UnknownAttribute, RepeatedModule, Reserved, UnknownTest, UnknownProcedure, ExportUnknown, BadExpression, NotExported}
+-- The first of faults that are listed in pieces.
+use Rattle.std.proofs.Common.{◌≡◌, ℕ, zero, suc, ◌<◌, ◌⊎◌, inl, inr, Bool, true, false, cond, List, [], ◌∷◌, ◌++◌, Option, Some, None, slice_get, All, refl, ap, sym, ◌∙◌, subst, arith}
+use Rattle.std.specs.Prelude.{nat_lt, nat_eq, ◌&&◌, fold}
+use Rattle.std.proofs.lemmas.Bool.{or_cases, or_left, or_right, and_parts, and_from, ltb-true, eqb-true, lt-ltb, eq-eqb, cases_lt, false_from_ne_true}
+use Rattle.std.proofs.lemmas.List.Elements.{All-nil, All-cons, All-head, All-tail}
+use Rattle.std.proofs.lemmas.List.Sums.{fold-append}
 use Rattle.fcp_model.specs.declared.fault.Fault.{Fault}
-use Rattle.fcp_model.specs.declared.source.Item.{Item}
-use Rattle.fcp_model.specs.declared.source.Module.{Module}
-use Rattle.fcp_model.specs.declared.source.GoalText.{GoalText}
-use Rattle.fcp_model.specs.Goals.{number_of_item}
-use Rattle.fcp_model.specs.ProcedureNames.{procedure_name}
-use Rattle.fcp_loader.specs.Checks.{fault_of, text_fault, call_fault, items_fault}
-use Rattle.fcp_loader.specs.Faults.{faults_at, reserved_heads, unknown_tests, unknown_in_bodies, unknown_items, unknown_exports, is_unknown_export, leaves_of_clauses, places_where, is_hidden, faults_of, goal_faults_of}
-use Rattle.fcp_loader.specs.Firsts.{first_of}
-use Rattle.fcp_loader.specs.Leaves.{leaves_in}
-use Rattle.fcp_loader.specs.TestItems.{is_reserved, is_test}
-use Rattle.fcp_loader.proofs.FirstPlaces.{first_of-map, first_of-filter, first_of-append, first_of-option, none-empty}
+use Rattle.fcp_model.specs.Codes.{code_number}
+use Rattle.fcp_loader.specs.Firsts.{comes_before, is_before, earlier, first_of, IsFirst}
 
--- the first fault of a kind is at the first of its places
-first_at : (code : Code) (places : List ℕ) (o : Option ℕ) → first_of places ≡ o → first_of (faults_at code places) ≡ option_map (fault_of code) o
-first_at code places o e = first_of-map (fault_of code) places ∙ ap (option_map (fault_of code)) e
+-- ---- the order of faults
 
--- the first place of what a test picks
-first_place : {A : Type 0} (at : A → ℕ) (p : A → Bool) (xs : List A) → first_of (map at (filter p xs)) ≡ option_map at (find p xs)
-first_place at p xs = first_of-map at (filter p xs) ∙ ap (option_map at) (first_of-filter p xs)
+abbrev Comes : ℕ → ℕ → ℕ → ℕ → Type 0
+Comes m x n y = (m < n) ⊎ ((m ≡ n) × (x < y))
 
--- one more list behind
-behind : {A : Type 0} (xs ys : List A) (o p : Option A) → first_of xs ≡ o → first_of ys ≡ p → first_of (xs ++ ys) ≡ option_or o p
-behind xs ys o p e f = first_of-append xs ys ∙ (λ i. option_or (e i) (f i))
+comes-true : (m x n y : ℕ) → comes_before m x n y ≡ true → Comes m x n y
+comes-true m x n y h = elim (or_cases (nat_lt m n) (nat_eq m n && nat_lt x y) h) [
+  | inl a ↦ inl (ltb-true m n a)
+  | inr b ↦ let p = and_parts (nat_eq m n) (nat_lt x y) b in inr (eqb-true m n p.0, ltb-true x y p.1)
+]
 
--- the faults of the kinds that need no look at the procedures, one list more at a time
-module _ (m : Module) where
-  abbrev attributes : List Fault
-  attributes = faults_at UnknownAttribute (option_to_list m.other)
+comes-from : (m x n y : ℕ) → Comes m x n y → comes_before m x n y ≡ true
+comes-from m x n y (inl a) = or_left (nat_lt m n) (nat_eq m n && nat_lt x y) (lt-ltb m n a)
+comes-from m x n y (inr b) = or_right (nat_lt m n) (nat_eq m n && nat_lt x y)
+    (and_from (nat_eq m n) (nat_lt x y) (eq-eqb m n b.0) (lt-ltb x y b.1))
 
-  abbrev names : List Fault
-  names = faults_at RepeatedModule (option_to_list m.again)
+-- of three pairs, the first comes before the second or the second before the third, where the first comes before the third
+comes-between : (m x n y k z : ℕ) → Comes m x k z → Comes m x n y ⊎ Comes n y k z
+comes-between m x n y k z (inl a) = elim (cases_lt m n) [ inl h ↦ inl (inl h) | inr h ↦ inr (inl (omega (arith, a, h))) ]
+comes-between m x n y k z (inr b) = elim (cases_lt m n) [
+  | inl h ↦ inl (inl h)
+  | inr h ↦ elim (cases_lt n m) [
+    | inl g ↦ inr (inl (omega (arith, b.0, g)))
+    | inr g ↦ elim (cases_lt x y) [
+      | inl w ↦ inl (inr (omega (arith, g, h), w))
+      | inr w ↦ inr (inr (omega (arith, b.0, g, h), omega (arith, b.1, w)))
+    ]
+  ]
+]
 
-  abbrev heads : List Fault
-  heads = faults_at Reserved (reserved_heads m.clauses)
+comes-along : (m x n y k z : ℕ) → Comes m x n y → Comes n y k z → Comes m x k z
+comes-along m x n y k z (inl a) (inl b) = inl (omega (arith, a, b))
+comes-along m x n y k z (inl a) (inr b) = inl (omega (arith, a, b.0))
+comes-along m x n y k z (inr a) (inl b) = inl (omega (arith, a.0, b))
+comes-along m x n y k z (inr a) (inr b) = inr (a.0 ∙ b.0, omega (arith, a.1, b.1))
 
-  abbrev guards : List Fault
-  guards = faults_at UnknownTest (unknown_tests m.clauses)
+comes-itself : (m x : ℕ) → Comes m x m x → ⊥
+comes-itself m x (inl a) = omega (arith, a)
+comes-itself m x (inr b) = omega (arith, b.1)
 
-  abbrev bodies : List Fault
-  bodies = faults_at UnknownProcedure (unknown_in_bodies m)
+abbrev IsBefore : Fault → Fault → Type 0
+IsBefore f g = Comes (code_number f.code) f.at (code_number g.code) g.at
 
-  abbrev exports : List Fault
-  exports = faults_at ExportUnknown (unknown_exports m)
+before-true : (f g : Fault) → is_before f g ≡ true → IsBefore f g
+before-true f g = comes-true (code_number f.code) f.at (code_number g.code) g.at
 
-  abbrev leaves : List Fault
-  leaves = faults_at BadExpression (leaves_of_clauses m.clauses)
+before-along : (f g h : Fault) → is_before f g ≡ true → is_before g h ≡ true → is_before f h ≡ true
+before-along f g h a b =
+    comes-from (code_number f.code) f.at (code_number h.code) h.at
+    (comes-along (code_number f.code) f.at (code_number g.code) g.at (code_number h.code) h.at (before-true f g a) (before-true g h b))
 
-  first-text : first_of (((attributes ++ names) ++ heads) ++ guards) ≡ text_fault m
-  first-text =
-      behind ((attributes ++ names) ++ heads) guards _ _
-      (behind (attributes ++ names) heads _ _
-      (behind attributes names _ _
-      (first_at UnknownAttribute (option_to_list m.other) m.other (first_of-option m.other))
-      (first_at RepeatedModule (option_to_list m.again) m.again (first_of-option m.again)))
-      (first_at Reserved (reserved_heads m.clauses) _ (first_place (λ c. c.at) (λ c. is_reserved (procedure_name c)) m.clauses)))
-      (first_at UnknownTest (unknown_tests m.clauses) _ (first_place (λ i. i.at) (λ i. not (is_test i.call)) (flat_map (λ c. c.guard) m.clauses)))
+never-itself : (f : Fault) → is_before f f ≡ false
+never-itself f = false_from_ne_true (is_before f f) (λ e. comes-itself (code_number f.code) f.at (before-true f f e))
 
-  first-bodies : first_of bodies ≡ option_map (fault_of UnknownProcedure) (option_map (λ i. i.at) (find (λ i. is_none (number_of_item m i)) (flat_map (λ c. c.body) m.clauses)))
-  first-bodies = first_at UnknownProcedure (unknown_in_bodies m) _ (first_place (λ i. i.at) (λ i. is_none (number_of_item m i)) (flat_map (λ c. c.body) m.clauses))
+-- what is not before another is before none that is not before that
+not-along : (f g h : Fault) → is_before f g ≡ false → is_before g h ≡ false → is_before f h ≡ false
+not-along f g h a b = false_from_ne_true (is_before f h) (λ e.
+    elim (comes-between (code_number f.code) f.at (code_number g.code) g.at (code_number h.code) h.at (before-true f h e)) [
+      | inl c ↦ let k : false ≡ true = sym a ∙ comes-from (code_number f.code) f.at (code_number g.code) g.at c in cc
+      | inr c ↦ let k : false ≡ true = sym b ∙ comes-from (code_number g.code) g.at (code_number h.code) h.at c in cc
+    ])
 
-  first-exports : first_of exports ≡ option_map (fault_of ExportUnknown) (option_map (λ e. e.at) (find (is_unknown_export m) (unwrap_or m.exports [])))
-  first-exports = first_at ExportUnknown (unknown_exports m) _ (first_place (λ e. e.at) (is_unknown_export m) (unwrap_or m.exports []))
+not-back : (f g : Fault) → is_before f g ≡ true → is_before g f ≡ false
+not-back f g a = false_from_ne_true (is_before g f) (λ e. let k : false ≡ true = sym (never-itself f) ∙ before-along f g f a e in cc)
 
-  first-leaves : first_of leaves ≡ option_map (fault_of BadExpression) (first_of (leaves_of_clauses m.clauses))
-  first-leaves = first_at BadExpression (leaves_of_clauses m.clauses) _ refl
+-- ---- the earlier of two
 
-  -- four options in a row, from the left
-  regroup : {A : Type 0} (o p q r : Option A) → option_or (option_or (option_or o p) q) r ≡ option_or o (option_or (option_or p q) r)
-  regroup None p q r = refl
-  regroup (Some x) p q r = refl
+module _ (f g h : Fault) where
+  by-cases : (p q : Bool) → is_before g f ≡ p → is_before h g ≡ q
+      → Some (cond (is_before h (cond p g f)) h (cond p g f)) ≡ Some (cond (is_before (cond q h g) f) (cond q h g) f)
+  by-cases true true a b = ap (λ t. Some (cond t h g)) b ∙ sym (ap (λ t. Some (cond t h f)) (before-along h g f b a))
+  by-cases true false a b = ap (λ t. Some (cond t h g)) b ∙ sym (ap (λ t. Some (cond t g f)) a)
+  by-cases false true a b = refl
+  by-cases false false a b = ap (λ t. Some (cond t h f)) (not-along h g f b a) ∙ sym (ap (λ t. Some (cond t g f)) a)
 
-  pub first-faults_of : first_of (faults_of m) ≡ option_or (text_fault m) (call_fault m)
-  first-faults_of =
-      behind (((((attributes ++ names) ++ heads) ++ guards) ++ bodies) ++ exports) leaves _ _
-      (behind ((((attributes ++ names) ++ heads) ++ guards) ++ bodies) exports _ _
-      (behind (((attributes ++ names) ++ heads) ++ guards) bodies _ _ first-text first-bodies)
-      first-exports)
-      first-leaves
-      ∙ regroup (text_fault m) _ _ _
+earlier-earlier : (a b c : Option Fault) → earlier (earlier a b) c ≡ earlier a (earlier b c)
+earlier-earlier None b c = refl
+earlier-earlier (Some f) None c = refl
+earlier-earlier (Some f) (Some g) None = refl
+earlier-earlier (Some f) (Some g) (Some h) = by-cases f g h (is_before g f) (is_before h g) refl refl
 
-  -- what the checks find is the first fault, and where they find none there is none
-  pub text-refused : (f : Fault) → text_fault m ≡ Some f → first_of (faults_of m) ≡ Some f
-  text-refused f e = first-faults_of ∙ ap (λ o. option_or o (call_fault m)) e
+-- ---- the first of all
 
-  pub call-refused : (f : Fault) → text_fault m ≡ None → call_fault m ≡ Some f → first_of (faults_of m) ≡ Some f
-  call-refused f e k = first-faults_of ∙ ap (λ o. option_or o (call_fault m)) e ∙ k
+abbrev one_more : Option Fault → Fault → Option Fault
+one_more first fault = earlier first (Some fault)
 
-  pub faultless : text_fault m ≡ None → call_fault m ≡ None → faults_of m ≡ []
-  faultless e k = none-empty (faults_of m) (first-faults_of ∙ ap (λ o. option_or o (call_fault m)) e ∙ k)
+fold-earlier : (a : Option Fault) (fs : List Fault) → fold one_more a fs ≡ earlier a (first_of fs)
+fold-earlier None [] = refl
+fold-earlier (Some f) [] = refl
+fold-earlier a (f ∷ fs) =
+    fold-earlier (earlier a (Some f)) fs ∙ earlier-earlier a (Some f) (first_of fs) ∙ ap (earlier a) (sym (fold-earlier (Some f) fs))
 
-  module _ (g : GoalText) where
-    pub first-goal_faults_of : first_of (goal_faults_of m g) ≡ items_fault m g.items
-    first-goal_faults_of =
-        behind (faults_at UnknownProcedure (unknown_items m g.items) ++ faults_at BadExpression (leaves_in g.items)) (faults_at NotExported (places_where (λ i. is_hidden m i.call) g.items)) _ _
-        (behind (faults_at UnknownProcedure (unknown_items m g.items)) (faults_at BadExpression (leaves_in g.items)) _ _
-        (first_at UnknownProcedure (unknown_items m g.items) _ (first_place (λ i. i.at) (λ i. is_none (number_of_item m i)) g.items))
-        (first_at BadExpression (leaves_in g.items) _ refl))
-        (first_at NotExported (places_where (λ i. is_hidden m i.call) g.items) _ (first_place (λ i. i.at) (λ i. is_hidden m i.call) g.items))
+pub first_of-append : (fs gs : List Fault) → first_of (fs ++ gs) ≡ earlier (first_of fs) (first_of gs)
+first_of-append fs gs = fold-append one_more None fs gs ∙ fold-earlier (first_of fs) gs
 
-    pub goal-faultless : items_fault m g.items ≡ None → goal_faults_of m g ≡ []
-    goal-faultless e = none-empty (goal_faults_of m g) (first-goal_faults_of ∙ e)
-
--- where the checks of a goal find nothing, each item has a number
-no_first : {A B : Type 0} (f : A → B) (o : Option A) → option_map f o ≡ None → o ≡ None
-no_first f None e = refl
-no_first f (Some x) e = cc
-
-no_either : {A : Type 0} (o p : Option A) → option_or o p ≡ None → o ≡ None
-no_either None p e = refl
-no_either (Some x) p e = cc
-
-all_numbers : (m : Module) (items : List Item) → find (λ i. is_none (number_of_item m i)) items ≡ None → All (λ i. IsSome (number_of_item m i)) items
-all_numbers m [] none = All-nil (λ i. IsSome (number_of_item m i))
-all_numbers m (item ∷ items) none = by (all_numbers m items) (number_of_item m item) refl none
+pub none-empty : (fs : List Fault) → first_of fs ≡ None → fs ≡ []
+none-empty [] e = refl
+none-empty (f ∷ fs) e = by (first_of fs) (sym (fold-earlier (Some f) fs) ∙ e)
   where
-    by : (find (λ i. is_none (number_of_item m i)) items ≡ None → All (λ i. IsSome (number_of_item m i)) items) → (o : Option ℕ) → number_of_item m item ≡ o
-        → cond (is_none o) (Some item) (find (λ i. is_none (number_of_item m i)) items) ≡ None → All (λ i. IsSome (number_of_item m i)) (item ∷ items)
-    by rest None e n = cc
-    by rest (Some k) e n = All-cons (λ i. IsSome (number_of_item m i)) item items (subst IsSome (sym e) refl) (rest n)
+    by : (o : Option Fault) → earlier (Some f) o ≡ None → f ∷ fs ≡ []
+    by None w = cc
+    by (Some g) w = cc
 
-pub numbered : (m : Module) (items : List Item) → items_fault m items ≡ None → All (λ i. IsSome (number_of_item m i)) items
-numbered m items none = all_numbers m items (no_first (λ i. i.at) _ (no_first (fault_of UnknownProcedure) _ (no_either _ _ (no_either _ _ none))))
+not-before : (f g : Fault) (fs : List Fault) → is_before g f ≡ false → All (λ x. is_before x g ≡ false) fs
+    → All (λ x. is_before x f ≡ false) fs
+not-before f g [] e h = All-nil (λ x. is_before x f ≡ false)
+not-before f g (x ∷ fs) e h =
+    All-cons (λ y. is_before y f ≡ false) x fs
+    (not-along x g f (All-head (λ y. is_before y g ≡ false) x fs h) e) (not-before f g fs e (All-tail (λ y. is_before y g ≡ false) x fs h))
 
-pub not_some : {A : Type 0} (o : Option A) → ((x : A) → o ≡ Some x → ⊥) → o ≡ None
-not_some None n = refl
-not_some (Some x) n = absurd (n x refl)
+-- the first of a fault and of more
+first-of-more : (g f : Fault) (fs : List Fault) (o : Option Fault) → first_of fs ≡ o → earlier (Some g) o ≡ Some f
+    → ((h : Fault) → first_of fs ≡ Some h → IsFirst fs h) → IsFirst (g ∷ fs) f
+first-of-more g f fs None n w rest =
+    let k : g ≡ f = cc in
+    subst (IsFirst (g ∷ fs)) k (record {
+      one = (0, refl);
+      least = All-cons (λ x. is_before x g ≡ false) g fs (never-itself g)
+          (subst (λ (xs : List Fault). All (λ x. is_before x g ≡ false) xs) (sym (none-empty fs n)) (All-nil (λ x. is_before x g ≡ false)));
+    })
+first-of-more g f fs (Some h) n w rest = by (is_before h g) refl w
+  where
+    r : IsFirst fs h
+    r = rest h n
+
+    by : (b : Bool) → is_before h g ≡ b → Some (cond b h g) ≡ Some f → IsFirst (g ∷ fs) f
+    by true b w =
+        let k : h ≡ f = cc in
+        subst (IsFirst (g ∷ fs)) k (record {
+          one = (suc r.one.0, r.one.1);
+          least = All-cons (λ x. is_before x h ≡ false) g fs (not-back h g b) r.least;
+        })
+    by false b w =
+        let k : g ≡ f = cc in
+        subst (IsFirst (g ∷ fs)) k
+        (record { one = (0, refl); least = All-cons (λ x. is_before x g ≡ false) g fs (never-itself g) (not-before g h fs b r.least) })
+
+pub is-first : (fs : List Fault) (f : Fault) → first_of fs ≡ Some f → IsFirst fs f
+is-first [] f e = cc
+is-first (g ∷ fs) f e = first-of-more g f fs (first_of fs) refl (sym (fold-earlier (Some g) fs) ∙ e) (is-first fs)
+
+-- the first of two lists, found one after the other
+pub then_more : (fs gs : List Fault) (a b o : Option Fault) → o ≡ earlier a b → a ≡ first_of fs → b ≡ first_of gs → o ≡ first_of (fs ++ gs)
+then_more fs gs a b o e p q = e ∙ (λ i. earlier (p i) (q i)) ∙ sym (first_of-append fs gs)

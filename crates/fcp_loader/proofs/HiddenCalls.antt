@@ -28,34 +28,45 @@ module _ {X : Type 0} (p : X → Bool) (xs : List X) where
 
   find-none : position p xs ≡ None → find p xs ≡ None
   find-none e = elim (cases_lt (position_or_len p xs) (length xs)) [
-    | inl h ↦ let b : nat_lt (position_or_len p xs) (length xs) ≡ true = lt-ltb (position_or_len p xs) (length xs) h in (let k : cond (nat_lt (position_or_len p xs) (length xs)) (Some (position_or_len p xs)) None ≡ None = e in cc)
+    | inl h ↦ let b : nat_lt (position_or_len p xs) (length xs) ≡ true = lt-ltb (position_or_len p xs) (length xs)
+        h in (let k : cond (nat_lt (position_or_len p xs) (length xs)) (Some (position_or_len p xs)) None ≡ None = e in cc)
     | inr h ↦ find_at p xs ∙ slice_get_past xs (position_or_len p xs) h
   ]
 
 module _ (m : Module) where
-  at_found : (o : Option ProcedureName) (e : Bool) → option_map (is_exported m) o ≡ Some e → not e ≡ option_map_or (λ h. not (is_exported m h)) o false
+  at_found : (o : Option ProcedureName) (e : Bool) → option_map (is_exported m) o ≡ Some e
+      → not e ≡ option_map_or (λ h. not (is_exported m h)) o false
   at_found None e w = cc
   at_found (Some h) e w = let k : e ≡ is_exported m h = cc in ap not k
 
   module _ (call : Call) (name : Sym) (args : List Term) (is : call ≡ User name args) (free : is_true name.0 (length args) ≡ false) where
     -- a call with a number, whose procedure is exported or not
-    pub is_hidden-some : (n : ℕ) (e : Bool) → number_of_call m call ≡ Some n → option_map (is_exported m) (slice_get (procedure_names m.clauses) n) ≡ Some e → not e ≡ is_hidden m call
+    pub is_hidden-some : (n : ℕ) (e : Bool) → number_of_call m call ≡ Some n
+        → option_map (is_exported m) (slice_get (procedure_names m.clauses) n) ≡ Some e → not e ≡ is_hidden m call
     is_hidden-some n e number exported =
         by (is_true name.0 (length args)) free (ap (number_of_call m) (sym is) ∙ number) ∙ ap (is_hidden m) (sym is)
       where
-        by : (b : Bool) → b ≡ false → (if b then Some true_procedure else position (same_procedure (record { name = name; arity = length args })) (procedure_names m.clauses)) ≡ Some n
-            → not e ≡ option_map_or (λ h. not (is_exported m h)) (if b then None else find (same_procedure (record { name = name; arity = length args })) (procedure_names m.clauses)) false
+        by : (b : Bool) → b ≡ false → (if b then Some true_procedure else position
+            (same_procedure (record { name = name; arity = length args })) (procedure_names m.clauses)) ≡ Some n
+            → not e ≡ option_map_or (λ h. not (is_exported m h))
+            (if b then None else find (same_procedure (record { name = name; arity = length args })) (procedure_names m.clauses))
+            false
         by true w k = cc
         by false w k =
             at_found (slice_get (procedure_names m.clauses) n) e exported
-            ∙ ap (λ o. option_map_or (λ h. not (is_exported m h)) o false) (sym (find-position (same_procedure (record { name = name; arity = length args })) (procedure_names m.clauses) n k))
+            ∙ ap (λ o. option_map_or (λ h. not (is_exported m h)) o false)
+            (sym (find-position (same_procedure (record { name = name; arity = length args })) (procedure_names m.clauses) n k))
 
     -- a call with none
     pub is_hidden-none : number_of_call m call ≡ None → false ≡ is_hidden m call
     is_hidden-none number =
         by (is_true name.0 (length args)) free (ap (number_of_call m) (sym is) ∙ number) ∙ ap (is_hidden m) (sym is)
       where
-        by : (b : Bool) → b ≡ false → (if b then Some true_procedure else position (same_procedure (record { name = name; arity = length args })) (procedure_names m.clauses)) ≡ None
-            → false ≡ option_map_or (λ h. not (is_exported m h)) (if b then None else find (same_procedure (record { name = name; arity = length args })) (procedure_names m.clauses)) false
+        by : (b : Bool) → b ≡ false → (if b then Some true_procedure else position
+            (same_procedure (record { name = name; arity = length args })) (procedure_names m.clauses)) ≡ None
+            → false ≡ option_map_or (λ h. not (is_exported m h))
+            (if b then None else find (same_procedure (record { name = name; arity = length args })) (procedure_names m.clauses))
+            false
         by true w k = cc
-        by false w k = ap (λ o. option_map_or (λ h. not (is_exported m h)) o false) (sym (find-none (same_procedure (record { name = name; arity = length args })) (procedure_names m.clauses) k))
+        by false w k = ap (λ o. option_map_or (λ h. not (is_exported m h)) o false)
+            (sym (find-none (same_procedure (record { name = name; arity = length args })) (procedure_names m.clauses) k))

@@ -1,4 +1,4 @@
 pub mod FirstFaults
-pub mod FirstPlaces
 pub mod HiddenCalls
-pub mod LeafPlaces
+pub mod FirstPlaces
+pub mod Numbered

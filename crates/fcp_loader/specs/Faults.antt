@@ -1,4 +1,5 @@
--- All faults of a module and of a goal that its text has beyond its grammar, by kind, and for one kind in the order of the text.
+-- All faults of a module and of a goal that its text has beyond its grammar. Which of them is the first does not depend on their
+-- order here.
 use Rattle.std.specs.Prelude.{ℕ, Bool, false, not, List, [], ◌++◌, length, map, filter, Option, None, is_none, if◌then◌else◌, find, position, unwrap_or}
 use Rattle.std.specs.List.{flat_map}
 use Rattle.std.specs.Option.{option_to_list, option_map_or}
@@ -69,7 +70,8 @@ faults_of m =
 -- the procedure of the module that a call is of: `true` with no argument, `=`, `:=` and the tests are of none
 abbrev pub procedure_called : Module → Call → Option ProcedureName
 procedure_called m (User name args) =
-    if is_true name.0 (length args) then None else find (same_procedure (record { name = name; arity = length args })) (procedure_names m.clauses)
+    if is_true name.0 (length args) then None else find (same_procedure (record { name = name; arity = length args }))
+    (procedure_names m.clauses)
 procedure_called m (Unify a b) = None
 procedure_called m (Assign a e) = None
 procedure_called m (Same a b) = None
@@ -80,9 +82,13 @@ procedure_called m (Compare o d e) = None
 abbrev pub is_hidden : Module → Call → Bool
 is_hidden m call = option_map_or (λ h. not (is_exported m h)) (procedure_called m call) false
 
+-- the faults of a goal's items for a module
+abbrev pub item_faults_of : Module → List Item → List Fault
+item_faults_of m items =
+    faults_at UnknownProcedure (unknown_items m items)
+    ++ faults_at BadExpression (leaves_in items)
+    ++ faults_at NotExported (places_where (λ i. is_hidden m i.call) items)
+
 -- the faults of a goal for a module
 abbrev pub goal_faults_of : Module → GoalText → List Fault
-goal_faults_of m g =
-    faults_at UnknownProcedure (unknown_items m g.items)
-    ++ faults_at BadExpression (leaves_in g.items)
-    ++ faults_at NotExported (places_where (λ i. is_hidden m i.call) g.items)
+goal_faults_of m g = item_faults_of m g.items

@@ -1,4 +1,3 @@
-pub mod Checks
 pub mod Faults
 pub mod Firsts
 pub mod Leaves

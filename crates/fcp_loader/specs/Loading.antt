@@ -30,7 +30,8 @@ pub record IsGoalOf (m : Module) (goal : GoalText) (g : GoalText × List ℕ) : 
   pub faultless : goal_faults_of m goal ≡ []
   pub numbers : AreNumbersOf m goal.items g.1
 
--- what `load_goal` answers for a goal of a module
+-- what `load_goal` answers for a goal of a module: it takes no memory
 abbrev pub LoadsGoal : Module → GoalText → Result (GoalText × List ℕ) Refused → Type 0
 LoadsGoal m goal (Ok g) = IsGoalOf m goal g
-LoadsGoal m goal (Err r) = Refuses (goal_faults_of m goal) r
+LoadsGoal m goal (Err (Fault f)) = first_of (goal_faults_of m goal) ≡ Some f
+LoadsGoal m goal (Err (NoMemory n)) = ⊥

@@ -1,46 +1,55 @@
 //! Items that call no procedure of the module, or a hidden one, and exports of none.
-ghost use Rattle.std.specs.Prelude.{◌≡◌, [], find, is_none, option_map, unwrap_or};
-ghost use Rattle.std.specs.List.{flat_map};
-ghost use Rattle.fcp_model.specs.Goals.{number_of_item};
+ghost use Rattle.std.specs.Prelude.{◌≡◌, map, filter};
 ghost use Rattle.fcp_loader.specs.Faults as spec;
+ghost use Rattle.fcp_loader.specs.Faults.{faults_at};
+ghost use Rattle.fcp_loader.specs.Firsts.{first_of};
 
-use fcp_model::{Call, Export, Item, Loaded, number_of};
+use crate::first::{earlier, fault_if};
+use fcp_model::{Call, Code, Export, Fault, Item, Loaded, number_of};
 
-/// The place of the first of some items that calls nothing that a body or a goal may call.
-pub fn unknown_item(loaded: &Loaded, items: &[Item]) -> Option<u32>
-    ensures { result ≡ option_map (λ i. i.at) (find (λ i. is_none (number_of_item loaded.now i)) items.now) }
+/// The first of some items that calls nothing that a body or a goal may call.
+pub fn unknown_item(loaded: &Loaded, items: &[Item]) -> Option<Fault>
+    ensures { result ≡ first_of (faults_at Code.UnknownProcedure (spec.unknown_items loaded.now items.now)) }
 {
-    items
-        .iter()
-        .find(|item| number_of(loaded, &item.call).is_none())
-        .map(|item| item.at)
+    let mut first = None;
+    for item in items {
+        let is_unknown = number_of(loaded, &item.call).is_none();
+        first = earlier(first, fault_if(is_unknown, Code::UnknownProcedure, item.at));
+    }
+    first
 }
 
-/// The place of the first such item of a body.
-pub fn unknown_in_bodies(loaded: &Loaded) -> Option<u32>
-    ensures { result ≡ option_map (λ i. i.at) (find (λ i. is_none (number_of_item loaded.now i)) (flat_map (λ c. c.body) loaded.now.clauses)) }
+/// The first such item of a body.
+pub fn unknown_in_bodies(loaded: &Loaded) -> Option<Fault>
+    ensures { result ≡ first_of (faults_at Code.UnknownProcedure (spec.unknown_in_bodies loaded.now)) }
 {
     let clauses = loaded.module().clauses.as_slice();
-    clauses
-        .iter()
-        .flat_map(|clause| clause.body.as_slice().iter())
-        .find(|item| number_of(loaded, &item.call).is_none())
-        .map(|item| item.at)
+    let mut first = None;
+    for clause in clauses {
+        let body = clause.body.as_slice();
+        first = earlier(first, unknown_item(loaded, body));
+    }
+    first
 }
 
-/// The place of the first of some elements of an `-export` that names no procedure.
-fn unknown_of(loaded: &Loaded, exports: &[Export]) -> Option<u32>
-    ensures { result ≡ option_map (λ e. e.at) (find (spec.is_unknown_export loaded.now) exports.now) }
+/// The first of some elements of an `-export` that names no procedure.
+fn unknown_of(loaded: &Loaded, exports: &[Export]) -> Option<Fault>
+    ensures { result ≡ first_of (faults_at Code.ExportUnknown (map (λ e. e.at) (filter (spec.is_unknown_export loaded.now) exports.now))) }
 {
     exports
         .iter()
-        .find(|export| loaded.find(export.name, export.arity).is_none())
+        .filter(|export| loaded.find(export.name, export.arity).is_none())
         .map(|export| export.at)
+        .map(|at| Fault {
+            code: Code::ExportUnknown,
+            at,
+        })
+        .fold(None, |first, fault| earlier(first, Some(fault)))
 }
 
-/// The place of the first element of the module's `-export`s that names no procedure.
-pub fn unknown_export(loaded: &Loaded) -> Option<u32>
-    ensures { result ≡ option_map (λ e. e.at) (find (spec.is_unknown_export loaded.now) (unwrap_or loaded.now.exports [])) }
+/// The first element of the module's `-export`s that names no procedure.
+pub fn unknown_export(loaded: &Loaded) -> Option<Fault>
+    ensures { result ≡ first_of (faults_at Code.ExportUnknown (spec.unknown_exports loaded.now)) }
 {
     match &loaded.module().exports {
         Some(exports) => unknown_of(loaded, exports.as_slice()),
@@ -62,12 +71,14 @@ fn is_hidden(loaded: &Loaded, call: &Call) -> bool
     }
 }
 
-/// The place of the first of some items that calls a procedure that is not exported.
-pub fn hidden_item(loaded: &Loaded, items: &[Item]) -> Option<u32>
-    ensures { result ≡ option_map (λ i. i.at) (find (λ i. spec.is_hidden loaded.now i.call) items.now) }
+/// The first of some items that calls a procedure that is not exported.
+pub fn hidden_item(loaded: &Loaded, items: &[Item]) -> Option<Fault>
+    ensures { result ≡ first_of (faults_at Code.NotExported (spec.places_where (λ i. spec.is_hidden loaded.now i.call) items.now)) }
 {
-    items
-        .iter()
-        .find(|item| is_hidden(loaded, &item.call))
-        .map(|item| item.at)
+    let mut first = None;
+    for item in items {
+        let is_hidden = is_hidden(loaded, &item.call);
+        first = earlier(first, fault_if(is_hidden, Code::NotExported, item.at));
+    }
+    first
 }

@@ -1,45 +1,43 @@
 //! The first fault of a module or a goal, over all kinds.
-ghost use Rattle.std.specs.Prelude.{◌≡◌, option_map};
-ghost use Rattle.fcp_loader.specs.Checks as spec;
+ghost use Rattle.std.specs.Prelude.{◌≡◌};
+ghost use Rattle.std.specs.Option.{option_to_list};
+ghost use Rattle.fcp_loader.specs.Faults.{faults_at, faults_of, item_faults_of};
+ghost use Rattle.fcp_loader.specs.Firsts.{first_of};
 
 use crate::calls::{hidden_item, unknown_export, unknown_in_bodies, unknown_item};
+use crate::first::earlier;
 use crate::guards::{reserved_head, unknown_test};
 use crate::leaves::{leaf_in_clauses, leaf_in_items};
-use fcp_model::{Code, Fault, Item, Loaded, Module};
+use fcp_model::{Code, Fault, Item, Loaded};
 
 /// The fault of a kind at a place, if there is one.
 fn fault_at(code: Code, place: Option<u32>) -> Option<Fault>
-    ensures { result ≡ option_map (spec.fault_of code) place }
+    ensures { result ≡ first_of (faults_at code (option_to_list place)) }
 {
     place.map(|at| Fault { code, at })
 }
 
-/// The first fault of the kinds that need no look at the procedures.
-pub fn fault_in_text(module: &Module) -> Option<Fault>
-    ensures { result ≡ spec.text_fault «module».now }
+/// The first fault of a module.
+pub fn fault_in_module(loaded: &Loaded) -> Option<Fault>
+    ensures { result ≡ first_of (faults_of loaded.now) }
 {
+    let module = loaded.module();
     let clauses = module.clauses.as_slice();
-    fault_at(Code::UnknownAttribute, module.other)
-        .or_else(|| fault_at(Code::RepeatedModule, module.again))
-        .or_else(|| fault_at(Code::Reserved, reserved_head(clauses)))
-        .or_else(|| fault_at(Code::UnknownTest, unknown_test(clauses)))
-}
-
-/// The first fault of the other kinds.
-pub fn fault_in_calls(loaded: &Loaded) -> Option<Fault>
-    ensures { result ≡ spec.call_fault loaded.now }
-{
-    let clauses = loaded.module().clauses.as_slice();
-    fault_at(Code::UnknownProcedure, unknown_in_bodies(loaded))
-        .or_else(|| fault_at(Code::ExportUnknown, unknown_export(loaded)))
-        .or_else(|| fault_at(Code::BadExpression, leaf_in_clauses(clauses)))
+    let names = earlier(
+        fault_at(Code::UnknownAttribute, module.other),
+        fault_at(Code::RepeatedModule, module.again),
+    );
+    let heads = earlier(names, reserved_head(clauses));
+    let guards = earlier(heads, unknown_test(clauses));
+    let bodies = earlier(guards, unknown_in_bodies(loaded));
+    let exports = earlier(bodies, unknown_export(loaded));
+    earlier(exports, leaf_in_clauses(clauses))
 }
 
 /// The first fault of a goal's items for a module.
 pub fn fault_in_items(loaded: &Loaded, items: &[Item]) -> Option<Fault>
-    ensures { result ≡ spec.items_fault loaded.now items.now }
+    ensures { result ≡ first_of (item_faults_of loaded.now items.now) }
 {
-    fault_at(Code::UnknownProcedure, unknown_item(loaded, items))
-        .or_else(|| fault_at(Code::BadExpression, leaf_in_items(items)))
-        .or_else(|| fault_at(Code::NotExported, hidden_item(loaded, items)))
+    let calls = earlier(unknown_item(loaded, items), leaf_in_items(items));
+    earlier(calls, hidden_item(loaded, items))
 }

@@ -1,10 +1,11 @@
 //! Heads that are reserved, and items of guards that are no tests.
-ghost use Rattle.std.specs.Prelude.{◌≡◌, find, not, option_map};
-ghost use Rattle.std.specs.List.{flat_map};
-ghost use Rattle.fcp_model.specs.ProcedureNames.{procedure_name};
+ghost use Rattle.std.specs.Prelude.{◌≡◌, not};
+ghost use Rattle.fcp_loader.specs.Faults.{faults_at, places_where, reserved_heads, unknown_tests};
+ghost use Rattle.fcp_loader.specs.Firsts.{first_of};
 ghost use Rattle.fcp_loader.specs.TestItems as spec;
 
-use fcp_model::{Call, Clause, Sym};
+use crate::first::{earlier, fault_if};
+use fcp_model::{Call, Clause, Code, Fault, Item, Sym};
 
 /// Whether a name is reserved with so many arguments.
 fn is_reserved(name: Sym, arity: usize) -> bool
@@ -24,23 +25,38 @@ fn is_test(call: &Call) -> bool
     }
 }
 
-/// The place of the first clause whose head is reserved.
-pub fn reserved_head(clauses: &[Clause]) -> Option<u32>
-    ensures { result ≡ option_map (λ c. c.at) (find (λ c. spec.is_reserved (procedure_name c)) clauses.now) }
+/// The first clause whose head is reserved.
+pub fn reserved_head(clauses: &[Clause]) -> Option<Fault>
+    ensures { result ≡ first_of (faults_at Code.Reserved (reserved_heads clauses.now)) }
 {
-    clauses
-        .iter()
-        .find(|clause| is_reserved(clause.head, clause.args.len()))
-        .map(|clause| clause.at)
+    let mut first = None;
+    for clause in clauses {
+        let is_reserved = is_reserved(clause.head, clause.args.len());
+        first = earlier(first, fault_if(is_reserved, Code::Reserved, clause.at));
+    }
+    first
 }
 
-/// The place of the first item of a guard that is no test.
-pub fn unknown_test(clauses: &[Clause]) -> Option<u32>
-    ensures { result ≡ option_map (λ i. i.at) (find (λ i. not (spec.is_test i.call)) (flat_map (λ c. c.guard) clauses.now)) }
+/// The first item of a guard that is no test.
+fn unknown_item(items: &[Item]) -> Option<Fault>
+    ensures { result ≡ first_of (faults_at Code.UnknownTest (places_where (λ i. not (spec.is_test i.call)) items.now)) }
 {
-    clauses
-        .iter()
-        .flat_map(|clause| clause.guard.as_slice().iter())
-        .find(|item| !is_test(&item.call))
-        .map(|item| item.at)
+    let mut first = None;
+    for item in items {
+        let is_unknown = !is_test(&item.call);
+        first = earlier(first, fault_if(is_unknown, Code::UnknownTest, item.at));
+    }
+    first
+}
+
+/// The first such item of the guards.
+pub fn unknown_test(clauses: &[Clause]) -> Option<Fault>
+    ensures { result ≡ first_of (faults_at Code.UnknownTest (unknown_tests clauses.now)) }
+{
+    let mut first = None;
+    for clause in clauses {
+        let guard = clause.guard.as_slice();
+        first = earlier(first, unknown_item(guard));
+    }
+    first
 }

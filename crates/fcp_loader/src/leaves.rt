@@ -1,10 +1,11 @@
 //! Leaves of expressions that are neither numbers nor variables.
-ghost use Rattle.std.specs.Prelude.{◌≡◌, ◌++◌};
-ghost use Rattle.fcp_loader.specs.Faults.{leaves_of_clauses};
+ghost use Rattle.std.specs.Prelude.{◌≡◌};
+ghost use Rattle.fcp_loader.specs.Faults.{faults_at, leaves_of_clauses};
 ghost use Rattle.fcp_loader.specs.Firsts.{first_of};
 ghost use Rattle.fcp_loader.specs.Leaves as spec;
 
-use fcp_model::{Call, Clause, Expr, Item, Term};
+use crate::first::earlier;
+use fcp_model::{Call, Clause, Code, Expr, Fault, Item, Term};
 
 /// Whether a term may stand in an expression.
 fn is_operand(term: &Term) -> bool
@@ -16,64 +17,55 @@ fn is_operand(term: &Term) -> bool
     }
 }
 
-/// The place of the first wrong leaf of an expression. The calls nest as deep as the expression.
-fn wrong_leaf(expr: &Expr) -> Option<u32>
-    ensures { result ≡ first_of (spec.wrong_leaves expr.now) }
+/// The first wrong leaf of an expression. The calls nest as deep as the expression.
+fn wrong_leaf(expr: &Expr) -> Option<Fault>
+    ensures { result ≡ first_of (faults_at Code.BadExpression (spec.wrong_leaves expr.now)) }
 {
     match expr {
-        Expr::Leaf(term, at) => { if is_operand(term) { None } else { Some(*at) } }
-        Expr::Op(_, left, right) => match wrong_leaf(left.get()) {
-            Some(at) => Some(at),
-            None => wrong_leaf(right.get()),
+        Expr::Leaf(term, at) => if is_operand(term) {
+            None
+        } else {
+            Some(Fault {
+                code: Code::BadExpression,
+                at: *at,
+            })
         },
+        Expr::Op(_, left, right) => earlier(wrong_leaf(left.get()), wrong_leaf(right.get())),
     }
 }
 
-/// The place of the first wrong leaf of a call.
-fn leaf_in_call(call: &Call) -> Option<u32>
-    ensures { result ≡ first_of (spec.leaves_in_call call.now) }
+/// The first wrong leaf of a call.
+fn leaf_in_call(call: &Call) -> Option<Fault>
+    ensures { result ≡ first_of (faults_at Code.BadExpression (spec.leaves_in_call call.now)) }
 {
     match call {
         Call::Assign(_, expr) => wrong_leaf(expr),
-        Call::Compare(_, left, right) => match wrong_leaf(left) {
-            Some(at) => Some(at),
-            None => wrong_leaf(right),
-        },
+        Call::Compare(_, left, right) => earlier(wrong_leaf(left), wrong_leaf(right)),
         Call::User { name: _, args: _ } => None,
         Call::Unify(_, _) | Call::Same(_, _) | Call::NotSame(_, _) => None,
     }
 }
 
-/// The place of the first wrong leaf of some items.
-pub fn leaf_in_items(items: &[Item]) -> Option<u32>
-    ensures { result ≡ first_of (spec.leaves_in items.now) }
+/// The first wrong leaf of some items.
+pub fn leaf_in_items(items: &[Item]) -> Option<Fault>
+    ensures { result ≡ first_of (faults_at Code.BadExpression (spec.leaves_in items.now)) }
 {
+    let mut first = None;
     for item in items {
-        if let Some(at) = leaf_in_call(&item.call) {
-            return Some(at);
-        }
+        first = earlier(first, leaf_in_call(&item.call));
     }
-    None
+    first
 }
 
-/// The place of the first wrong leaf of a clause, whose guard stands before its body.
-fn leaf_in_clause(clause: &Clause) -> Option<u32>
-    ensures { result ≡ first_of (spec.leaves_in clause.now.guard ++ spec.leaves_in clause.now.body) }
+/// The first wrong leaf of some clauses, in their guards and their bodies.
+pub fn leaf_in_clauses(clauses: &[Clause]) -> Option<Fault>
+    ensures { result ≡ first_of (faults_at Code.BadExpression (leaves_of_clauses clauses.now)) }
 {
-    match leaf_in_items(clause.guard.as_slice()) {
-        Some(at) => Some(at),
-        None => leaf_in_items(clause.body.as_slice()),
-    }
-}
-
-/// The place of the first wrong leaf of some clauses.
-pub fn leaf_in_clauses(clauses: &[Clause]) -> Option<u32>
-    ensures { result ≡ first_of (leaves_of_clauses clauses.now) }
-{
+    let mut first = None;
     for clause in clauses {
-        if let Some(at) = leaf_in_clause(clause) {
-            return Some(at);
-        }
+        let guard = leaf_in_items(clause.guard.as_slice());
+        let body = leaf_in_items(clause.body.as_slice());
+        first = earlier(first, earlier(guard, body));
     }
-    None
+    first
 }

@@ -4,8 +4,10 @@
 
 mod calls;
 mod checks;
+mod first;
 mod guards;
 mod leaves;
 mod loading;
 
+pub use first::first_is_least;
 pub use loading::{load, load_goal};

@@ -2,7 +2,7 @@
 ghost use Rattle.std.specs.Prelude.{◌<◌, ◌≤◌, ◌^◌, ◌↔◌, length, All, IsTrue};
 ghost use Rattle.fcp_loader.specs.Loading.{Loads, LoadsGoal};
 
-use crate::checks::{fault_in_calls, fault_in_items, fault_in_text};
+use crate::checks::{fault_in_items, fault_in_module};
 use fcp_model::{Clause, GoalText, Loaded, LoadedGoal, Module, NoMemory, Refused};
 use std::alloc::Global;
 
@@ -16,8 +16,8 @@ fn can_be_numbered(clauses: &[Clause]) -> bool
             .all(|clause| clause.args.len() <= u32::MAX as usize)
 }
 
-/// The module with the index of its procedures, or its first fault beyond the grammar: by kind, in the order of their
-/// numbers, and for one kind in the order of the text. After an error the module is given up.
+/// The module with the index of its procedures, or its first fault beyond the grammar: by the number of its code, and then
+/// by its place. After an error the module is given up.
 pub fn load(alloc: Global, module: Module) -> Result<Loaded, Refused>
     ensures { Loads «module» result }
 {
@@ -25,20 +25,17 @@ pub fn load(alloc: Global, module: Module) -> Result<Loaded, Refused>
     if !can_be_numbered(module.clauses.as_slice()) {
         return Err(Refused::NoMemory(NoMemory));
     }
-    if let Some(fault) = fault_in_text(&module) {
-        return Err(Refused::Fault(fault));
-    }
     let Ok(loaded) = Loaded::index(alloc, module) else {
         return Err(Refused::NoMemory(NoMemory));
     };
-    match fault_in_calls(&loaded) {
+    match fault_in_module(&loaded) {
         Some(fault) => Err(Refused::Fault(fault)),
         None => Ok(loaded),
     }
 }
 
 /// The goal with the numbers of its items' procedures in the module, or its first fault beyond the grammar, as for a
-/// module. It takes no memory. After an error the goal is given up.
+/// module. It takes no memory, and never answers that memory ran out. After an error the goal is given up.
 pub fn load_goal(_alloc: Global, loaded: &Loaded, goal: GoalText) -> Result<LoadedGoal, Refused>
     requires few { length goal.items ≤ 256 }
     ensures { LoadsGoal loaded.now goal result }

@@ -91,8 +91,8 @@ same-request words (show f) (run h k) a b =
     let e : codes "show" ∷ f ∷ [] ≡ codes "run" ∷ h ∷ k ∷ [] = sym a.asks ∙ b.asks in
     cc
 
-no-first : {X : Type 0} (xs : List X) (x : X) → xs ≡ [] → first_of xs ≡ Some x → ⊥
-no-first xs x e f = let g : first_of {A = _} [] ≡ Some x = sym (ap first_of e) ∙ f in cc
+no-first : (faults : List Fault) (fault : Fault) → faults ≡ [] → first_of faults ≡ Some fault → ⊥
+no-first faults fault e f = let g : first_of [] ≡ Some fault = sym (ap first_of e) ∙ f in cc
 
 module _ (words : List Bytes) (held : Option Entries) (r : Request) (bytes : Bytes) (h : IsThere words held r bytes) where
   told : (claim : Entries → Type 0) → Told held claim → claim h.entries

@@ -27,10 +27,12 @@ keeps-nothing (Some xs) (Some ys) k = k ∙ sym (append-nil xs)
 
 -- what a write took, and the rest
 pub front-rest : (n : ℕ) (xs : List ℕ) → take n xs ++ take (length xs - n) (drop n xs) ≡ xs
-front-rest n xs = ap (λ ys. take n xs ++ ys) (take_all (length xs - n) (drop n xs) (omega (arith, length-drop n xs))) ∙ take-append-drop n xs
+front-rest n xs = ap (λ ys. take n xs ++ ys) (take_all (length xs - n) (drop n xs) (omega (arith, length-drop n xs)))
+    ∙ take-append-drop n xs
 
 -- a write took some bytes more
-pub more-written : (old now new : Option (List ℕ)) (piece rest taken rest' : List ℕ) → HasWritten old now piece rest → taken ++ rest' ≡ rest → Appends now new taken → HasWritten old new piece rest'
+pub more-written : (old now new : Option (List ℕ)) (piece rest taken rest' : List ℕ) → HasWritten old now piece rest
+    → taken ++ rest' ≡ rest → Appends now new taken → HasWritten old new piece rest'
 more-written old now new piece rest taken rest' h whole a = record {
   done = h.done ++ taken;
   whole = append_assoc h.done taken rest' ∙ ap (λ x. h.done ++ x) whole ∙ h.whole;
@@ -46,7 +48,8 @@ pub nothing-taken : (n : ℕ) (xs : List ℕ) → n ≤ 0 → take n xs ≡ []
 nothing-taken n xs h = let e : n ≡ 0 = omega (arith, h) in ap (λ k. take k xs) e
 
 -- after a write that failed or took nothing, a front is written
-pub front-written : (old now new : Option (List ℕ)) (piece rest xs : List ℕ) → HasWritten old now piece rest → xs ≡ [] → Appends now new xs → (k : ℕ) × Appends old new (take k piece)
+pub front-written : (old now new : Option (List ℕ)) (piece rest xs : List ℕ) → HasWritten old now piece rest → xs ≡ []
+    → Appends now new xs → (k : ℕ) × Appends old new (take k piece)
 front-written old now new piece rest xs h e a =
     let w : h.done ++ xs ≡ take (length h.done + 0) piece =
     ap (λ x. h.done ++ x) e ∙ sym (take-append-add h.done rest 0) ∙ ap (take (length h.done + 0)) h.whole in

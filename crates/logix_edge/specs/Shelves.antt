@@ -52,7 +52,8 @@ Agrees there limit Failed = Unit {0}
 Agrees there limit NoMemory = Unit {0}
 
 -- A shelf was asked for a name: what it holds, the count of faults, before and now, and the name that failed last, which was and is.
-pub record IsFetch (held : Option Entries) (before now : ℕ) (was is : Option (List ℕ)) (name : List ℕ) (limit : ℕ) (fetched : Fetched) : Type 0 where
+pub record IsFetch (held : Option Entries) (before now : ℕ) (was is : Option (List ℕ)) (name : List ℕ) (limit : ℕ)
+    (fetched : Fetched) : Type 0 where
   pub faults : CountsFaults before now was is name fetched
   pub within : IsWithin limit fetched
   pub told : Told held (λ entries. Agrees (bytes_of entries name) limit fetched)

@@ -1,17 +1,14 @@
-use Rattle.std.proofs.Common.{◌≡◌, None, ap, sym, ◌∙◌}
-use Rattle.fcp_loader.specs.Checks.{text_fault, call_fault}
-use Rattle.fcp_loader.proofs.FirstFaults.{text-refused, call-refused, faultless, not_some}
+use Rattle.std.proofs.Common.{ap, sym, ◌∙◌}
+use Rattle.fcp_loader.specs.Faults.{faults_of}
+use Rattle.fcp_loader.specs.Firsts.{first_of}
+use Rattle.fcp_loader.proofs.FirstFaults.{none-empty}
 use Rattle.fcp_loader.proofs.loading.load.Goals as goal
 
 pub returns-in-Some : goal.returns-in-Some
-returns-in-Some c = text-refused c.args.module c.in-Some.fault (sym c.in-Some.ensures)
-
-pub returns-in-Some-fault_in_calls : goal.returns-in-Some-fault_in_calls
-returns-in-Some-fault_in_calls c =
-    let free : text_fault c.args.module ≡ None = sym c.fault_in_text.ensures ∙ not_some c.fault_in_text.result c.in_default.not-Some in
-    call-refused c.args.module c.in-Some-fault_in_calls.fault free (ap call_fault (sym c.in-Ok.ensures) ∙ sym c.in-Some-fault_in_calls.ensures)
+returns-in-Some c = ap (λ m. first_of (faults_of m)) (sym c.in-Ok.ensures) ∙ sym c.in-Some.ensures
 
 pub returns-in-None : goal.returns-in-None
-returns-in-None c =
-    let free : text_fault c.args.module ≡ None = sym c.fault_in_text.ensures ∙ not_some c.fault_in_text.result c.in_default.not-Some in
-    record { same = c.in-Ok.ensures; faultless = faultless c.args.module free (ap call_fault (sym c.in-Ok.ensures) ∙ sym c.in-None.ensures) }
+returns-in-None c = record {
+  same = c.in-Ok.ensures;
+  faultless = none-empty (faults_of c.args.module) (ap (λ m. first_of (faults_of m)) (sym c.in-Ok.ensures) ∙ sym c.in-None.ensures);
+}

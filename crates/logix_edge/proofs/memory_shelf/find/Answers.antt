@@ -7,9 +7,19 @@ use Rattle.logix_edge.proofs.memory_shelf.find.Goals as goal
 
 pub returns-in_err-place : goal.returns-in_err-place
 returns-in_err-place c =
-    rw (c.from_residual.ensures, lookup-position (string_bytes {Z = Global}) (λ (text : Vec ℕ Global). text.items) (λ held. bytes_eq held c.args.name.now) c.args.names.now c.args.texts.now, ← c.in_err-place.ensures)
+    rw (
+      c.from_residual.ensures,
+      lookup-position (string_bytes {Z = Global}) (λ (text : Vec ℕ Global). text.items)
+          (λ held. bytes_eq held c.args.name.now) c.args.names.now c.args.texts.now,
+      ← c.in_err-place.ensures,
+    )
 
 pub returns : goal.returns
 returns c =
-    rw (lookup-position (string_bytes {Z = Global}) (λ (text : Vec ℕ Global). text.items) (λ held. bytes_eq held c.args.name.now) c.args.names.now c.args.texts.now, ← c.in_ok-place.ensures, ← option_copied-get c.args.texts.now c.in_ok-place.place c.get.result c.get.ensures.lookup)
+    rw (
+      lookup-position (string_bytes {Z = Global}) (λ (text : Vec ℕ Global). text.items) (λ held. bytes_eq held c.args.name.now)
+          c.args.names.now c.args.texts.now,
+      ← c.in_ok-place.ensures,
+      ← option_copied-get c.args.texts.now c.in_ok-place.place c.get.result c.get.ensures.lookup,
+    )
     (option_map-copied (λ (text : Vec ℕ Global). text.items) c.get.result)
