@@ -1,5 +1,6 @@
 -- Cells and words are one to one.
-use Rattle.std.proofs.Common.{◌≡◌, ℕ, ◌+◌, ◌-◌, ◌*◌, ◌/◌, ◌%◌, ◌<◌, ℤ, pos, negsuc, Bool, true, false, cond, Option, Some, None, refl, sym, ap, ◌∙◌, subst, arith}
+use Rattle.std.proofs.Common.{◌≡◌, ℕ, ◌+◌, ◌-◌, ◌*◌, ◌/◌, ◌%◌, ◌<◌, ℤ, pos, negsuc, Bool, true, false}
+use Rattle.std.proofs.Common.{cond, Option, Some, None, refl, sym, ap, ◌∙◌, subst, arith}
 use Rattle.std.specs.Prelude.{nat_eq, nat_lt, ◌≤ℤ◌, option_map}
 use Rattle.std.proofs.lemmas.Int.{ints}
 use Rattle.std.proofs.lemmas.Bool.{ltb-true, eqb-true, eqb-false}
@@ -22,7 +23,9 @@ below_true : (x m : ℕ) (o : Option Cell) → x < m → cond (nat_lt x m) o Non
 below_true x m o h = grind (arith, nat_tests)
 
 small_back : (z : ℤ) → negsuc 0x7fffffffffffff ≤ℤ z → z ≤ℤ pos 0x7fffffffffffff → cell_of 3 (raised z) ≡ Some (Small z)
-small_back z l h = below_true (raised z) 0x100000000000000 (Some (Small (lowered (raised z)))) (raised_below z l h) ∙ ap (λ x. Some (Small x)) (lowered_raised z l h)
+small_back z l h =
+    below_true (raised z) 0x100000000000000 (Some (Small (lowered (raised z)))) (raised_below z l h) ∙ ap (λ x. Some (Small x))
+    (lowered_raised z l h)
 
 cell_of_says : (c : Cell) → IsCell c → cell_of (tag c) (says c) ≡ Some c
 cell_of_says (Unbound n) i = below_true n _ _ i
@@ -64,7 +67,8 @@ says_back x t h = omega arith
 pub decoded_encoded : (c : Cell) → IsCell c → decoded (encoded c) ≡ Some c
 unfolding decoded
 decoded_encoded c i =
-    ap (λ t. cell_of t ((16 * says c + tag c) / 16)) (tag_back (says c) (tag c) (tag_below c)) ∙ (ap (cell_of (tag c)) (says_back (says c) (tag c) (tag_below c)) ∙ cell_of_says c i)
+    ap (λ t. cell_of t ((16 * says c + tag c) / 16)) (tag_back (says c) (tag c) (tag_below c)) ∙
+    (ap (cell_of (tag c)) (says_back (says c) (tag c) (tag_below c)) ∙ cell_of_says c i)
 
 -- what a cell of a word says
 record Says (t x : ℕ) (c : Cell) : Type 0 where
@@ -106,14 +110,18 @@ waiting_back x h i = omega arith
 stand_says : (x : ℕ) (c : Cell) → option_map Status (stand_of x) ≡ Some c → Says 9 x c
 stand_says x c e = go (nat_eq x 0) (nat_eq x 1) (nat_lt x 0x100000002) refl refl refl e
   where
-    go : (i j k : Bool) → nat_eq x 0 ≡ i → nat_eq x 1 ≡ j → nat_lt x 0x100000002 ≡ k → option_map Status (cond i (Some Ready) (cond j (Some Done) (cond k (Some (Waiting (x - 2))) None))) ≡ Some c → Says 9 x c
+    go : (i j k : Bool) → nat_eq x 0 ≡ i → nat_eq x 1 ≡ j → nat_lt x 0x100000002 ≡ k
+        → option_map Status (cond i (Some Ready) (cond j (Some Done) (cond k (Some (Waiting (x - 2))) None))) ≡ Some c → Says 9 x c
     go true j k d f g h = plain 9 x (Status Ready) c tt refl (sym (eqb-true x 0 d)) h
     go false true k d f g h = plain 9 x (Status Done) c tt refl (sym (eqb-true x 1 f)) h
-    go false false true d f g h = plain 9 x (Status (Waiting (x - 2))) c (waiting_fits x (ltb-true x 0x100000002 g)) refl (waiting_back x (eqb-false x 0 d) (eqb-false x 1 f)) h
+    go false false true d f g h =
+        plain 9 x (Status (Waiting (x - 2))) c (waiting_fits x (ltb-true x 0x100000002 g)) refl
+        (waiting_back x (eqb-false x 0 d) (eqb-false x 1 f)) h
     go false false false d f g h = cc
 
 -- a test of a tag decides
-pick : (t k : ℕ) (o p : Option Cell) (c : Cell) (G : Type 0) → cond (nat_eq t k) o p ≡ Some c → (k ≡ t → o ≡ Some c → G) → (p ≡ Some c → G) → G
+pick : (t k : ℕ) (o p : Option Cell) (c : Cell) (G : Type 0) → cond (nat_eq t k) o p ≡ Some c → (k ≡ t → o ≡ Some c → G) → (p ≡ Some c → G)
+    → G
 pick t k o p c G e f g = go (nat_eq t k) refl e
   where
     go : (b : Bool) → nat_eq t k ≡ b → cond b o p ≡ Some c → G
@@ -134,9 +142,12 @@ plain_says t x c b e =
 says_of : (t x : ℕ) (c : Cell) → cell_of t x ≡ Some c → Says t x c
 says_of t x c e =
     pick t 3 _ _ c (Says t x c) e (λ i f.
-    let h = below x 0x100000000000000 _ c f in plain t x (Small (lowered x)) c (lowered_above x, lowered_below x h.0) i (raised_lowered x h.0) h.1) (λ e.
+    let h =
+    below x 0x100000000000000 _ c f in plain t x (Small (lowered x)) c (lowered_above x, lowered_below x h.0) i
+    (raised_lowered x h.0) h.1) (λ e.
     pick t 4 _ _ c (Says t x c) e (λ i f.
-    let h = below x 0x10000000000 _ c f in plain t x (Wide (x % 0x100000000) (x / 0x100000000)) c (wide_fits x h.0) i (wide_back x) h.1) (λ e.
+    let h =
+    below x 0x10000000000 _ c f in plain t x (Wide (x % 0x100000000) (x / 0x100000000)) c (wide_fits x h.0) i (wide_back x) h.1) (λ e.
     pick t 6 _ _ c (Says t x c) e (λ i f.
     let h = cond_some (nat_eq x 0) Nil c f in plain t x Nil c tt i (sym (eqb-true x 0 h.0)) (ap Some h.1)) (λ e.
     pick t 9 _ _ c (Says t x c) e (λ i f. subst (λ (k : ℕ). Says k x c) i (stand_says x c f)) (λ e.

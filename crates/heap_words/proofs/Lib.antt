@@ -1,3 +1,4 @@
 pub mod Encodings
 pub mod Keeps
+pub mod WordTables
 pub mod QuietHeaps

@@ -1,12 +1,13 @@
 -- Heaps whose words refer to nothing: a new heap, and one to which such words are added.
-use Rattle.std.proofs.Common.{◌≡◌, ℕ, zero, suc, ◌+◌, ◌-◌, ◌*◌, ◌||◌, ◌%◌, ◌<◌, ◌≤◌, Bool, true, false, cond, List, [], ◌∷◌, length, set, slice_get, Option, Some, None, refl, sym, ap, ◌∙◌, subst, arith, ⊎_elim}
+use Rattle.std.proofs.Common.{◌≡◌, ℕ, zero, suc, ◌+◌, ◌-◌, ◌*◌, ◌||◌, ◌%◌, ◌<◌, ◌≤◌, Bool, true, false, cond, List, [], ◌∷◌}
+use Rattle.std.proofs.Common.{length, set, slice_get, Option, Some, None, refl, sym, ap, ◌∙◌, subst, arith, ⊎_elim}
 use Rattle.std.specs.Prelude.{nat_eq, nat_lt}
 use Rattle.std.specs.Option.{option_and_then}
 use Rattle.std.proofs.lemmas.Bool.{and_from, or_right, lt-ltb, eqb-true, cases_eq}
 use Rattle.std.proofs.lemmas.List.{length-set}
 use Rattle.std.proofs.lemmas.Option.{cond_some, slice_get_within, same_Some}
 use Rattle.heap_words.specs.Cells.{decoded, encoded, is_final_word}
-use Rattle.heap_words.specs.Refers.{Refers, teller}
+use Rattle.heap_words.specs.Refers.{Refers, HasPart, reaches_refers, teller}
 use Rattle.heap_words.specs.Heaps.{IsHeap, RefersInside, AreFresh, fresh_word, top_said, top_at, is_inside, inside_at, only_final, final_at}
 use Rattle.heap_words.specs.declared.cell.Cell.{Cell}
 use Rattle.heap_words.specs.declared.cell.Cell.TheVariants.{Unbound, Ref, RoRef, Small, Wide, Str, Nil, Cons, Tuple, Status, Raw, Top}
@@ -56,6 +57,20 @@ quiet_refers (Status d) b q r = r
 quiet_refers (Raw n) b q r = r
 quiet_refers (Top a) b q r = r
 
+quiet_part : (c : Cell) (b : ℕ) → is_quiet c ≡ true → HasPart c b → ⊥
+quiet_part (Unbound e) b q r = quiet_refers (Unbound e) b q r
+quiet_part (Ref a) b q r = r
+quiet_part (RoRef a) b q r = r
+quiet_part (Small z) b q r = r
+quiet_part (Wide a h) b q r = cc
+quiet_part (Str s) b q r = r
+quiet_part Nil b q r = r
+quiet_part (Cons a) b q r = cc
+quiet_part (Tuple a) b q r = cc
+quiet_part (Status d) b q r = r
+quiet_part (Raw n) b q r = r
+quiet_part (Top a) b q r = r
+
 quiet_tells : (c : Cell) (t : ℕ) → is_quiet c ≡ true → teller c ≡ Some t → ⊥
 quiet_tells (Unbound e) t q i = let j : None ≡ Some t = sym (ap (λ b. cond b None (Some e)) q) ∙ i in cc
 quiet_tells (Ref a) t q i = cc
@@ -81,6 +96,8 @@ quiet_inside : (ws : List ℕ) (x : ℕ) → IsQuiet x → RefersInside ws x
 quiet_inside ws x q = record {
   refers = λ b c d r. absurd (quiet_refers c b (quiet_cell x c q d) r);
   refers_by = λ t y n b c d i _ _ _. absurd (quiet_tells c t (quiet_cell x c q d) i);
+  part_final = λ b y c d r _. absurd (quiet_part c b (quiet_cell x c q d) r);
+  part_final_by = λ t z n b y c d i _ _ _ _. absurd (quiet_tells c t (quiet_cell x c q d) i);
 }
 
 inside_word : (ws : List ℕ) (a x : ℕ) → inside_at ws a ≡ Some x → slice_get ws a ≡ Some x
@@ -119,7 +136,7 @@ quiet_heap pages ws q = record {
   arguments = λ p x y n b d e f _ _ _ _. absurd (no_status x d (q.each p x (inside_word ws p x e)) f);
   no_cycle = record {
     rank = λ a. 0;
-    falls = λ a b x c e d r. absurd (quiet_refers c b (quiet_cell x c (q.each a x (final_word ws a x e)) d) r);
+    falls = λ a b x c e d r. absurd (quiet_refers c b (quiet_cell x c (q.each a x (final_word ws a x e)) d) (reaches_refers c b r));
     falls_by = λ a b x t y n c e d i _ _ _. absurd (quiet_tells c t (quiet_cell x c (q.each a x (final_word ws a x e)) d) i);
   };
 }
@@ -160,9 +177,11 @@ fresh_quiet pages ws few f = record {
 }
 
 -- a quiet word is written, other than a top
-set_each : (ws : List ℕ) (i v : ℕ) → IsQuiet v → ((a x : ℕ) → slice_get ws a ≡ Some x → IsQuiet x) → (a x : ℕ) → slice_get (set ws i v) a ≡ Some x → IsQuiet x
+set_each : (ws : List ℕ) (i v : ℕ) → IsQuiet v → ((a x : ℕ) → slice_get ws a ≡ Some x → IsQuiet x) → (a x : ℕ)
+    → slice_get (set ws i v) a ≡ Some x → IsQuiet x
 set_each ws i v q each a x e = ⊎_elim
-    (λ s. let b : i < length ws = subst (λ (n : ℕ). i < n) (length-set ws i v) (subst (λ (k : ℕ). k < length (set ws i v)) s (slice_get_within (set ws i v) a x e)) in
+    (λ s. let b : i < length ws = subst (λ (n : ℕ). i < n) (length-set ws i v)
+    (subst (λ (k : ℕ). k < length (set ws i v)) s (slice_get_within (set ws i v) a x e)) in
     subst IsQuiet (same_Some v x (sym (slice_get-set_same ws i v b) ∙ subst (λ (k : ℕ). slice_get (set ws i v) k ≡ Some x) s e)) q)
     (λ d. each a x (sym (slice_get-set_other ws i a v d) ∙ e))
     (cases_eq a i)
@@ -184,9 +203,11 @@ quiet_word pages ws i v q off w = record {
 
 -- a page's top is raised
 pub new_top : (ws : List ℕ) (i t : ℕ) → i < length ws → t < 0x100000000 → top_at (set ws i (encoded (Top t))) i ≡ t
-new_top ws i t h b = ap (λ o. top_said (option_and_then decoded o)) (slice_get-set_same ws i (encoded (Top t)) h) ∙ ap top_said (decoded_encoded (Top t) b)
+new_top ws i t h b =
+    ap (λ o. top_said (option_and_then decoded o)) (slice_get-set_same ws i (encoded (Top t)) h) ∙ ap top_said (decoded_encoded (Top t) b)
 
-pub quiet_top : (pages : ℕ) (ws : List ℕ) (i t : ℕ) → AreQuiet pages ws → i < 1024 * pages → i < t → t ≤ i + 1024 → AreQuiet pages (set ws i (encoded (Top t)))
+pub quiet_top : (pages : ℕ) (ws : List ℕ) (i t : ℕ) → AreQuiet pages ws → i < 1024 * pages → i < t → t ≤ i + 1024
+    → AreQuiet pages (set ws i (encoded (Top t)))
 quiet_top pages ws i t q there lo hi =
     let few : pages ≤ 3906250 = q.few in
     let fits : t < 0x100000000 = omega arith in

@@ -1,5 +1,6 @@
 -- The words of cells: a word is 16 times what its cell says, and the tag of the cell's kind.
-use Rattle.std.specs.Prelude.{ℕ, ◌+◌, ◌-◌, ◌*◌, ◌/◌, ◌%◌, ◌<◌, ℤ, pos, negsuc, ◌-ℤ◌, ◌≤ℤ◌, Bool, true, false, Option, Some, None, option_map, if◌then◌else◌, nat_eq, nat_lt}
+use Rattle.std.specs.Prelude.{ℕ, ◌+◌, ◌-◌, ◌*◌, ◌/◌, ◌%◌, ◌<◌, ℤ, pos, negsuc, ◌-ℤ◌, ◌≤ℤ◌, Bool, true, false}
+use Rattle.std.specs.Prelude.{Option, Some, None, option_map, if◌then◌else◌, nat_eq, nat_lt}
 use Rattle.heap_words.specs.declared.cell.Cell.{Cell}
 use Rattle.heap_words.specs.declared.cell.Cell.TheVariants.{Unbound, Ref, RoRef, Small, Wide, Str, Nil, Cons, Tuple, Status, Raw, Top}
 use Rattle.heap_words.specs.declared.cell.Stand.{Stand}
@@ -73,7 +74,8 @@ IsCell (Top a) = a < 0x100000000
 
 -- the stand of a number, where there is one
 abbrev pub stand_of : ℕ → Option Stand
-stand_of x = if nat_eq x 0 then Some Ready else (if nat_eq x 1 then Some Done else (if nat_lt x 0x100000002 then Some (Waiting (x - 2)) else None))
+stand_of x = if nat_eq x 0 then Some Ready else
+    (if nat_eq x 1 then Some Done else (if nat_lt x 0x100000002 then Some (Waiting (x - 2)) else None))
 
 -- the cell of a tag that says a number of 32 bits
 abbrev pub plain_of : ℕ → ℕ → Option Cell

@@ -1,8 +1,9 @@
 -- The words of a plain heap: pages of 1,024 words, of which the first is the page's top.
-use Rattle.std.specs.Prelude.{◌≡◌, ℕ, ◌+◌, ◌-◌, ◌*◌, ◌%◌, ◌<◌, ◌≤◌, ◌&&◌, ◌||◌, Bool, true, List, Option, Some, None, if◌then◌else◌, nat_eq, nat_lt, slice_get, length}
+use Rattle.std.specs.Prelude.{◌≡◌, ℕ, ◌+◌, ◌-◌, ◌*◌, ◌%◌, ◌<◌, ◌≤◌, ◌&&◌, ◌||◌, Bool, true, List, Option}
+use Rattle.std.specs.Prelude.{Some, None, if◌then◌else◌, nat_eq, nat_lt, slice_get, length}
 use Rattle.std.specs.Option.{option_and_then}
 use Rattle.heap_words.specs.Cells.{decoded, encoded, is_final_word}
-use Rattle.heap_words.specs.Refers.{Refers, teller, RefersBy}
+use Rattle.heap_words.specs.Refers.{Refers, HasPart, teller, RefersBy, HasPartBy}
 use Rattle.heap_words.specs.WordsLaws.{Acyclic}
 use Rattle.heap_words.specs.declared.cell.Cell.{Cell}
 use Rattle.heap_words.specs.declared.cell.Cell.TheVariants.{Status, Raw, Top}
@@ -34,10 +35,14 @@ only_final (Some x) = if is_final_word x then Some x else None
 abbrev pub final_at : List ℕ → ℕ → Option ℕ
 final_at ws a = only_final (inside_at ws a)
 
--- a word refers only to addresses inside, by itself and by the number that stands inside
+-- A word refers only to addresses inside, by itself and by the number that stands inside, and its parts there are final.
 pub record RefersInside (ws : List ℕ) (x : ℕ) : Type 0 where
   pub refers : (b : ℕ) (c : Cell) → decoded x ≡ Some c → Refers c b → is_inside ws b ≡ true
-  pub refers_by : (t y n b : ℕ) (c : Cell) → decoded x ≡ Some c → teller c ≡ Some t → inside_at ws t ≡ Some y → decoded y ≡ Some (Raw n) → RefersBy n c b → is_inside ws b ≡ true
+  pub refers_by : (t y n b : ℕ) (c : Cell) → decoded x ≡ Some c → teller c ≡ Some t → inside_at ws t ≡ Some y → decoded y ≡ Some (Raw n)
+      → RefersBy n c b → is_inside ws b ≡ true
+  pub part_final : (b y : ℕ) (c : Cell) → decoded x ≡ Some c → HasPart c b → inside_at ws b ≡ Some y → is_final_word y ≡ true
+  pub part_final_by : (t z n b y : ℕ) (c : Cell) → decoded x ≡ Some c → teller c ≡ Some t → inside_at ws t ≡ Some z
+      → decoded z ≡ Some (Raw n) → HasPartBy n c b → inside_at ws b ≡ Some y → is_final_word y ≡ true
 
 -- the words of a plain heap
 pub record IsHeap (ws : List ℕ) : Type 0 where
@@ -47,11 +52,12 @@ pub record IsHeap (ws : List ℕ) : Type 0 where
   -- each top lies above its page's first word, and not past the page's end
   pub above : (p : ℕ) → 1024 * p < length ws → 1024 * p < top_at ws (1024 * p)
   pub within : (p : ℕ) → 1024 * p < length ws → top_at ws (1024 * p) ≤ 1024 * p + 1024
-  -- the words inside refer only to addresses inside
+  -- the words inside refer only to addresses inside, and their parts are final
   pub inside : (a x : ℕ) → inside_at ws a ≡ Some x → RefersInside ws x
   -- behind a status stand three words, and where the third says a number, as many further ones, the arguments
   pub process : (p x b : ℕ) (d : Stand) → inside_at ws p ≡ Some x → decoded x ≡ Some (Status d) → p < b → b ≤ p + 3 → is_inside ws b ≡ true
-  pub arguments : (p x y n b : ℕ) (d : Stand) → inside_at ws p ≡ Some x → decoded x ≡ Some (Status d) → inside_at ws (p + 3) ≡ Some y → decoded y ≡ Some (Raw n) → p + 3 < b → b ≤ p + 3 + n → is_inside ws b ≡ true
+  pub arguments : (p x y n b : ℕ) (d : Stand) → inside_at ws p ≡ Some x → decoded x ≡ Some (Status d) → inside_at ws (p + 3) ≡ Some y
+      → decoded y ≡ Some (Raw n) → p + 3 < b → b ≤ p + 3 + n → is_inside ws b ≡ true
   -- the final words inside refer to one another in no cycle
   pub no_cycle : Acyclic (final_at ws)
 

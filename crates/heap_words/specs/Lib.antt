@@ -2,5 +2,6 @@ pub mod Cells
 pub mod Refers
 pub mod WordsLaws
 pub mod Trails
+pub mod WordTables
 pub mod Heaps
 pub mod HeapLaws

@@ -28,19 +28,22 @@ pub record Agrees (own : ℕ → Option ℕ) (kept : WordList) (m : Memory) : Ty
 abbrev pub Says : (ℕ → Option ℕ) → WordList → (Memory → Type 0) → Type 0
 Says own kept P = (m : Memory) → Agrees own kept m → P m
 
--- the kept words were loaded, and the bindings lead to known addresses alone
+-- the kept words were loaded and are none of a try's own, and the bindings lead to known addresses alone
 pub record Holds {S : Type 0} (had : S → ℕ → ℕ → Type 0) (leads : S → ℕ → Type 0) (kept binds : WordList) (w : S) : Type 0 where
   pub kept_had : (a x : ℕ) → word_at kept a ≡ Some x → had w a x
+  pub kept_below : (a x : ℕ) → word_at kept a ≡ Some x → a < 4000000000
   pub bound_leads : (a x : ℕ) → word_at binds a ≡ Some x → leads w x
 
 -- only loads lie between, and what the trail kept besides was loaded there and is none of a try's own words
-pub record Went {S : Type 0} (later : S → S → Type 0) (gave : S → S → ℕ → ℕ → Type 0) (kept : WordList) (w : S) (kept' : WordList) (w' : S) : Type 0 where
+pub record Went {S : Type 0} (later : S → S → Type 0) (gave : S → S → ℕ → ℕ → Type 0) (kept : WordList) (w : S) (kept' : WordList)
+    (w' : S) : Type 0 where
   pub between : later w w'
   pub grows : (a x : ℕ) → word_at kept a ≡ Some x → word_at kept' a ≡ Some x
   pub given : (a x : ℕ) → word_at kept' a ≡ Some x → (word_at kept a ≡ Some x) ⊎ (gave w w' a x × (a < 4000000000))
 
 -- only loads lie between, and the trail kept what they gave
-pub record KeepsLoads {S : Type 0} (is_sound : S → Type 0) (had : S → ℕ → ℕ → Type 0) (leads : S → ℕ → Type 0) (later : S → S → Type 0) (gave : S → S → ℕ → ℕ → Type 0) (kept binds : WordList) (w : S) (kept' binds' : WordList) (w' : S) : Type 0 where
+pub record KeepsLoads {S : Type 0} (is_sound : S → Type 0) (had : S → ℕ → ℕ → Type 0) (leads : S → ℕ → Type 0) (later : S → S → Type 0)
+    (gave : S → S → ℕ → ℕ → Type 0) (kept binds : WordList) (w : S) (kept' binds' : WordList) (w' : S) : Type 0 where
   pub sound : is_sound w'
   pub went : Went later gave kept w kept' w'
   pub holds : Holds had leads kept' binds' w'

@@ -103,6 +103,8 @@ impl Words for PlainHeap {
 
     ghost gave = { λ g h a x. (g.words.items ≡ h.words.items) × (inside_at h.words.items a ≡ Some x) };
 
+    ghost once = { λ g h a x. (g.words.items ≡ h.words.items) × (inside_at h.words.items a ≡ Some x) };
+
     ghost laws = { heap_laws };
 
     fn load(&mut self, addr: u32) -> u64 {

@@ -7,6 +7,7 @@ mod steps;
 #[cfg(test)]
 mod tests;
 mod trail;
+mod word_table;
 mod words;
 
 pub use cell::{Cell, Stand, decode, encode, is_final};

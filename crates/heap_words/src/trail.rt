@@ -2,49 +2,43 @@
 ghost use Rattle.std.specs.Prelude.{◌≡◌, ◌++◌, [], ◌∷◌, ◌≤◌, None, IfOk, OnOk, OnErr, MatchResult, slice_get, option_map};
 ghost use Rattle.heap_words.specs.Trails.{word_at, under, Holds, KeepsLoads, Says};
 
+use crate::word_table::{OWN, WordTable};
 use crate::words::Words;
 use fcp_model::NoMemory;
-use indexmap::IndexMap;
 use std::alloc::Global;
 
 /// What a try did so far. Contracts see three lists: the private bindings and the kept words, each an address with a word, and
 /// the places read.
 #[derive(Drop)]
 pub struct Trail {
-    binds: IndexMap<u32, u64>,
+    binds: WordTable,
     reads: Vec<u32>,
-    kept: IndexMap<u32, u64>,
+    kept: WordTable,
 }
-
-/// Addresses from here on are those of a try's own pieces.
-const OWN: u32 = 4_000_000_000;
 
 impl Trail {
     /// A trail with nothing on it.
     pub fn make(alloc: Global) -> Result<Trail, NoMemory>
-        ensures binds { IfOk result (λ t. t.binds.entries ≡ []) }
+        ensures binds { IfOk result (λ t. t.binds ≡ []) }
         ensures reads { IfOk result (λ t. t.reads.items ≡ []) }
-        ensures kept { IfOk result (λ t. t.kept.entries ≡ []) }
+        ensures kept { IfOk result (λ t. t.kept ≡ []) }
     {
         Ok(Trail {
-            binds: IndexMap::new(alloc),
+            binds: WordTable::make(alloc),
             reads: Vec::new(alloc),
-            kept: IndexMap::new(alloc),
+            kept: WordTable::make(alloc),
         })
     }
 
     /// Keeps a loaded word. Where memory runs out, the trail stays as it was.
     fn keep(&mut self, addr: u32, word: u64) -> Result<(), NoMemory>
-        requires { word_at self.old.kept.entries addr ≡ None }
-        ensures kept { MatchResult result (λ _. self.new.kept.entries ≡ self.old.kept.entries ++ (addr, word) ∷ [])
-            (λ _. self.new.kept.entries ≡ self.old.kept.entries) }
-        ensures binds { self.new.binds.entries ≡ self.old.binds.entries }
+        requires { word_at self.old.kept addr ≡ None }
+        ensures kept { MatchResult result (λ _. self.new.kept ≡ self.old.kept ++ (addr, word) ∷ [])
+            (λ _. self.new.kept ≡ self.old.kept) }
+        ensures binds { self.new.binds ≡ self.old.binds }
         ensures reads { self.new.reads.items ≡ self.old.reads.items }
     {
-        match self.kept.insert(addr, word) {
-            Ok(_) => Ok(()),
-            Err(_) => Err(NoMemory),
-        }
+        self.kept.put(addr, word)
     }
 
     /// The word at a known address, with no look at private bindings. It is kept from now on, where it is none of the
@@ -52,17 +46,18 @@ impl Trail {
     pub fn word<W: Words>(&mut self, words: &mut W, addr: u32) -> Result<u64, NoMemory>
         requires sound { W.sound words.old }
         requires known { W.knows words.old addr }
-        requires holds { Holds W.had W.leads self.old.kept.entries self.old.binds.entries words.old }
+        requires holds { Holds W.had W.leads self.old.kept self.old.binds words.old }
         ensures between { W.later words.old words.new }
-        ensures binds { self.new.binds.entries ≡ self.old.binds.entries }
+        ensures binds { self.new.binds ≡ self.old.binds }
         ensures reads { self.new.reads.items ≡ self.old.reads.items }
-        ensures loaded { OnOk result (KeepsLoads W.sound W.had W.leads W.later W.gave self.old.kept.entries self.old.binds.entries words.old self.new.kept.entries self.new.binds.entries words.new) }
-        ensures stays { OnErr result (self.new.kept.entries ≡ self.old.kept.entries) }
-        ensures word { IfOk result (λ x. Says (W.own words.new) self.new.kept.entries (λ m. m addr ≡ x)) }
+        ensures loaded { OnOk result (KeepsLoads W.sound W.had W.leads W.later W.gave self.old.kept self.old.binds words.old self.new.kept
+            self.new.binds words.new) }
+        ensures stays { OnErr result (self.new.kept ≡ self.old.kept) }
+        ensures word { IfOk result (λ x. Says (W.own words.new) self.new.kept (λ m. m addr ≡ x)) }
         ensures had { IfOk result (λ x. W.had words.new addr x) }
     {
-        if let Some(word) = self.kept.get(&addr) {
-            return Ok(*word);
+        if let Some(word) = self.kept.get(addr) {
+            return Ok(word);
         }
         let word = words.load(addr);
         if addr < OWN {
@@ -73,22 +68,23 @@ impl Trail {
 
     /// The word that an address is privately bound to.
     pub fn bound(&self, addr: u32) -> Option<u64>
-        ensures { result ≡ word_at self.now.binds.entries addr }
+        ensures { result ≡ word_at self.now.binds addr }
     {
-        self.binds.get(&addr).copied()
+        self.binds.get(addr)
     }
 
     /// The word at an address under the private bindings; where it is not bound, as `word` gives it.
     pub fn look<W: Words>(&mut self, words: &mut W, addr: u32) -> Result<u64, NoMemory>
         requires sound { W.sound words.old }
-        requires known { word_at self.old.binds.entries addr ≡ None → W.knows words.old addr }
-        requires holds { Holds W.had W.leads self.old.kept.entries self.old.binds.entries words.old }
+        requires known { word_at self.old.binds addr ≡ None → W.knows words.old addr }
+        requires holds { Holds W.had W.leads self.old.kept self.old.binds words.old }
         ensures between { W.later words.old words.new }
-        ensures binds { self.new.binds.entries ≡ self.old.binds.entries }
+        ensures binds { self.new.binds ≡ self.old.binds }
         ensures reads { self.new.reads.items ≡ self.old.reads.items }
-        ensures loaded { OnOk result (KeepsLoads W.sound W.had W.leads W.later W.gave self.old.kept.entries self.old.binds.entries words.old self.new.kept.entries self.new.binds.entries words.new) }
-        ensures stays { OnErr result (self.new.kept.entries ≡ self.old.kept.entries) }
-        ensures word { IfOk result (λ x. Says (W.own words.new) self.new.kept.entries (λ m. under self.old.binds.entries m addr ≡ x)) }
+        ensures loaded { OnOk result (KeepsLoads W.sound W.had W.leads W.later W.gave self.old.kept self.old.binds words.old self.new.kept
+            self.new.binds words.new) }
+        ensures stays { OnErr result (self.new.kept ≡ self.old.kept) }
+        ensures word { IfOk result (λ x. Says (W.own words.new) self.new.kept (λ m. under self.old.binds m addr ≡ x)) }
         ensures leads { IfOk result (λ x. W.leads words.new x) }
     {
         match self.bound(addr) {
@@ -99,24 +95,21 @@ impl Trail {
 
     /// Binds an address that is not bound privately. Where memory runs out, the trail stays as it was.
     pub fn bind(&mut self, addr: u32, word: u64) -> Result<(), NoMemory>
-        requires { word_at self.old.binds.entries addr ≡ None }
-        ensures binds { MatchResult result (λ _. self.new.binds.entries ≡ self.old.binds.entries ++ (addr, word) ∷ [])
-            (λ _. self.new.binds.entries ≡ self.old.binds.entries) }
+        requires { word_at self.old.binds addr ≡ None }
+        ensures binds { MatchResult result (λ _. self.new.binds ≡ self.old.binds ++ (addr, word) ∷ [])
+            (λ _. self.new.binds ≡ self.old.binds) }
         ensures reads { self.new.reads.items ≡ self.old.reads.items }
-        ensures kept { self.new.kept.entries ≡ self.old.kept.entries }
+        ensures kept { self.new.kept ≡ self.old.kept }
     {
-        match self.binds.insert(addr, word) {
-            Ok(_) => Ok(()),
-            Err(_) => Err(NoMemory),
-        }
+        self.binds.put(addr, word)
     }
 
     /// Notes that a place was read unbound. Where memory runs out, the trail stays as it was.
     pub fn note_read(&mut self, place: u32) -> Result<(), NoMemory>
-        ensures binds { self.new.binds.entries ≡ self.old.binds.entries }
+        ensures binds { self.new.binds ≡ self.old.binds }
         ensures reads { MatchResult result (λ _. self.new.reads.items ≡ self.old.reads.items ++ place ∷ [])
             (λ _. self.new.reads.items ≡ self.old.reads.items) }
-        ensures kept { self.new.kept.entries ≡ self.old.kept.entries }
+        ensures kept { self.new.kept ≡ self.old.kept }
     {
         match self.reads.push(place) {
             Ok(()) => Ok(()),
@@ -126,9 +119,9 @@ impl Trail {
 
     /// The private binding at a position from 0, in the order in which they were made; `None` past the end.
     pub fn bound_at(&self, at: usize) -> Option<(u32, u64)>
-        ensures { result ≡ slice_get self.now.binds.entries at }
+        ensures { result ≡ slice_get self.now.binds at }
     {
-        self.binds.get_index(at).map(|(addr, word)| (*addr, *word))
+        self.binds.at(at)
     }
 
     /// The place read at a position from 0; `None` past the end.
@@ -140,25 +133,25 @@ impl Trail {
 
     /// The kept word at a position from 0, in the order in which they were loaded; `None` past the end.
     pub fn kept_at(&self, at: usize) -> Option<(u32, u64)>
-        ensures { result ≡ slice_get self.now.kept.entries at }
+        ensures { result ≡ slice_get self.now.kept at }
     {
-        self.kept.get_index(at).map(|(addr, word)| (*addr, *word))
+        self.kept.at(at)
     }
 
     /// Drops the private bindings alone.
     pub fn undo(&mut self)
-        ensures binds { self.new.binds.entries ≡ [] }
+        ensures binds { self.new.binds ≡ [] }
         ensures reads { self.new.reads.items ≡ self.old.reads.items }
-        ensures kept { self.new.kept.entries ≡ self.old.kept.entries }
+        ensures kept { self.new.kept ≡ self.old.kept }
     {
         self.binds.clear();
     }
 
     /// Drops everything.
     pub fn clear(&mut self)
-        ensures binds { self.new.binds.entries ≡ [] }
+        ensures binds { self.new.binds ≡ [] }
         ensures reads { self.new.reads.items ≡ [] }
-        ensures kept { self.new.kept.entries ≡ [] }
+        ensures kept { self.new.kept ≡ [] }
     {
         self.undo();
         self.reads.clear();

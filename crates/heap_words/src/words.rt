@@ -1,9 +1,9 @@
 //! What generic code asks of words that it loads.
-ghost use Rattle.std.specs.Prelude.{◌≡◌, ◌≤◌, ℕ, Option, Some, true};
-ghost use Rattle.heap_words.specs.Cells.{is_final_word};
+ghost use Rattle.std.specs.Prelude.{◌≡◌, ◌≤◌, ℕ, Option, Some};
 ghost use Rattle.heap_words.specs.WordsLaws.{WordsLaws};
 
 /// Words that can be loaded by their addresses, from 0. Between two loads others may write words that are not final.
+/// The trait and its laws are complete: what a crate above needs of words, it takes from them.
 pub trait Words {
     // How many addresses there are.
     ghost addresses: { Self → ℕ };
@@ -32,14 +32,17 @@ pub trait Words {
     // A load between the two gave this word at this address.
     ghost gave: { Self → Self → ℕ → ℕ → Type 0 };
 
+    // One load lies between the two, and it gave this word at this address. So a contract can name the first load of a call.
+    ghost once: { Self → Self → ℕ → ℕ → Type 0 };
+
     /// The word at a known address.
     fn load(&mut self, addr: u32) -> u64
         requires sound { sound self.old }
         requires known { knows self.old addr }
         ensures later { later self.old self.new }
         ensures gave { gave self.old self.new addr result }
-        ensures own { 4000000000 ≤ addr → own self.old addr ≡ Some result }
-        ensures shown { is_final_word result ≡ true → shown self.new addr ≡ Some result };
+        ensures once { once self.old self.new addr result }
+        ensures own { 4000000000 ≤ addr → own self.old addr ≡ Some result };
 
     ghost laws: { WordsLaws addresses sound knows had leads own shown later gave };
 }

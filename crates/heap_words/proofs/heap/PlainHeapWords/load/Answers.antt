@@ -1,6 +1,5 @@
-use Rattle.std.proofs.Common.{◌<◌, ◌≤◌, length, refl, ap, ◌∙◌, arith, rules, cond, Some, None}
+use Rattle.std.proofs.Common.{◌<◌, ◌≤◌, length, refl, arith, rules}
 use Rattle.std.proofs.lemmas.Option.{slice_get_read}
-use Rattle.heap_words.specs.Heaps.{only_final}
 use Rattle.heap_words.specs.HeapLaws.{inside_below, inside_is}
 use Rattle.heap_words.proofs.heap.PlainHeapWords.load.Goals as goal
 
@@ -12,7 +11,15 @@ index-requires c =
 pub returns-clause-gave : goal.returns-clause-gave
 returns-clause-gave c =
     let ws = c.args.self.now.words.items in
-    let there = slice_get_read ws (length ws) c.args.addr c.index.result.now refl (inside_below ws c.args.addr c.requires.known) c.index.ensures in
+    let there =
+    slice_get_read ws (length ws) c.args.addr c.index.result.now refl (inside_below ws c.args.addr c.requires.known) c.index.ensures in
+    (refl, inside_is ws c.args.addr c.index.result.now c.requires.known there)
+
+pub returns-clause-once : goal.returns-clause-once
+returns-clause-once c =
+    let ws = c.args.self.now.words.items in
+    let there =
+    slice_get_read ws (length ws) c.args.addr c.index.result.now refl (inside_below ws c.args.addr c.requires.known) c.index.ensures in
     (refl, inside_is ws c.args.addr c.index.result.now c.requires.known there)
 
 pub returns-clause-own : goal.returns-clause-own
@@ -20,10 +27,3 @@ returns-clause-own c = λ h.
     let there : c.args.addr < length c.args.self.now.words.items = inside_below c.args.self.now.words.items c.args.addr c.requires.known in
     let small : length c.args.self.now.words.items ≤ 4000000000 = c.requires.sound.small in
     absurd (omega arith)
-
-pub returns-clause-shown : goal.returns-clause-shown
-returns-clause-shown c = λ f.
-    let ws = c.args.self.now.words.items in
-    let there = slice_get_read ws (length ws) c.args.addr c.index.result.now refl (inside_below ws c.args.addr c.requires.known) c.index.ensures in
-    ap only_final (inside_is ws c.args.addr c.index.result.now c.requires.known there)
-    ∙ ap (λ t. cond t (Some c.index.result.now) None) f
