@@ -1,0 +1,4 @@
+pub mod ClosedTerms
+pub mod ClosedItems
+pub mod ProgramsOfTexts
+pub mod RunsOfTexts
