@@ -1,0 +1,13 @@
+pub mod Leads
+pub mod Stacks
+pub mod Visiting
+pub mod Turns
+pub mod Sizes
+pub mod Seeing
+pub mod Ending
+pub mod Measures
+pub mod Chains
+pub mod Walkings
+pub mod Falling
+pub mod Opened
+pub mod Closing
