@@ -1,0 +1,9 @@
+pub mod NumbersInWords
+pub mod ValuesOfWords
+pub mod OccursInWords
+pub mod AlikeInWords
+pub mod MovesInWords
+pub mod BindingsInWords
+pub mod PairsInWords
+pub mod UnifyInWords
+pub mod NamedInWords

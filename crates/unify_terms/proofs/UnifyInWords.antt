@@ -1,0 +1,178 @@
+-- The unification of words is that of their terms.
+use Rattle.std.proofs.Common.{◌≡◌, ℕ, suc, ◌+◌, ◌≤◌, false, List, [], ◌∷◌, ◌++◌, map, Some}
+use Rattle.std.proofs.Common.{None, refl, sym, ap, ap₂, ◌∙◌, subst, arith, append_assoc}
+use Rattle.heap_words.specs.Trails.{WordList, Memory}
+use Rattle.ro_unify.specs.Unify.{Turn, goes, clashes, waits, Treats, Unifies, at_end, on, clashed, stopped}
+use Rattle.ro_unify.specs.Unify as words
+use Rattle.fcp_model.specs.Places.{Variable}
+use Rattle.fcp_model.specs.Terms.{Term, number, string, nil, cons, tuple, var, ro, first, Bindings}
+use Rattle.fcp_model.specs.Value.{value}
+use Rattle.fcp_model.specs.Pair.{Pair, Step, treated, table, both_looks, first_of, pair_on, pair}
+use Rattle.fcp_model.specs.Unification.{unify, go_on, step_on}
+use Rattle.fcp_model.specs.Unification as endings
+use Rattle.fcp_model.proofs.MoreSteps.{at_least, value_more, unify_more}
+use Rattle.unify_terms.specs.Denotes.{Naming, Denotes, DenotesPairs, Stands, Names, HasValue, value_as, EndsAs, finished, UnifiesAs}
+use Rattle.unify_terms.specs.Denotes as denoted
+use Rattle.unify_terms.proofs.ValuesOfWords.{values_so}
+use Rattle.unify_terms.proofs.PairsInWords.{TurnIs, idle, bound, split, unlike, halts, Treats_as, by_looks}
+
+module _ (p : Naming) (m : Memory) (names : Names p m) where
+  value_is : (n : ℕ) (s : Bindings) (t : Term Variable) → value n s t ≡ value_as p m n s false t
+  value_is n s (var q) = refl
+  value_is n s (ro q) = refl
+  value_is n s (first k) = refl
+  value_is n s (number z) = refl
+  value_is n s (string z) = refl
+  value_is n s nil = refl
+  value_is n s (cons t u) = refl
+  value_is n s (tuple ts) = refl
+
+  no_first : (t : Term Variable) (w : ℕ) → Denotes p m t w → first_of t ≡ None
+  no_first (var q) w d = refl
+  no_first (ro q) w d = refl
+  no_first (first k) w d = absurd d
+  no_first (number z) w d = refl
+  no_first (string z) w d = refl
+  no_first nil w d = refl
+  no_first (cons t u) w d = refl
+  no_first (tuple ts) w d = refl
+
+  pair_so : (bs : WordList) (s : Bindings) → Stands p m bs s → (rs rs' : List ℕ) (t : Turn) (w : ℕ × ℕ) (a b : Term Variable)
+      → Denotes p m a w.0 → Denotes p m b w.1 → Treats bs m rs w t rs' → Treats_as p m names bs s rs rs' t (λ n. pair n s a b)
+  pair_so bs s st rs rs' t w a b d f r =
+      let v = values_so p bs m s st false w.0 r.left r.left_is a d in
+      let u = values_so p bs m s st false w.1 r.right r.right_is b f in
+      let k = by_looks p m names bs s st rs rs' t w.0 w.1 r.left r.right v.look u.look r.left_is r.right_is v.is u.is r.does in
+      record {
+        steps = k.steps + (v.steps + u.steps);
+        step = k.step;
+        reads = k.reads;
+        treats = λ n l. ap (pair_on n s a b) (no_first b w.1 f)
+            ∙ (ap₂ (both_looks (table n s))
+            (at_least (λ (i : ℕ). value i s a) (value_more s a) v.steps n (omega arith) v.look (value_is v.steps s a ∙ v.value))
+            (at_least (λ (i : ℕ). value i s b) (value_more s b) u.steps n (omega arith) u.look (value_is u.steps s b ∙ u.value))
+            ∙ k.treats n (omega arith));
+        read = k.read;
+        is = k.is;
+      }
+
+  pairs_with : (ts us : List Pair) (vs ws : List (ℕ × ℕ)) → DenotesPairs p m ts vs → DenotesPairs p m us ws
+      → DenotesPairs p m (ts ++ us) (vs ++ ws)
+  pairs_with [] us [] ws d e = e
+  pairs_with (t ∷ ts) us (v ∷ vs) ws d e = (d.0, d.1, pairs_with ts us vs ws d.2 e)
+  pairs_with [] us (v ∷ vs) ws d e = absurd d
+  pairs_with (t ∷ ts) us [] ws d e = absurd d
+
+  -- one step of the definitions
+  one_step : (s ts : Bindings) (qs : List Variable) (a b : Term Variable) (ps : List Pair) (n : ℕ) (st : Step) (rs : List Variable)
+      → pair n (s ++ ts) a b ≡ treated st rs → unify (suc n) s ts qs ((a, b) ∷ ps) ≡ step_on (unify n s) ts (qs ++ rs) ps st
+  one_step s ts qs a b ps n st rs e = ap (go_on (unify n s) ts qs ps) e
+
+  enough : (s ts : Bindings) (n k : ℕ) (rs : List Variable) (ps : List Pair) (e : endings.Ended) → n ≤ k → unify n s ts rs ps ≡ Some e
+      → unify k s ts rs ps ≡ Some e
+  enough s ts n k rs ps e l h = at_least (λ (i : ℕ). unify i s ts rs ps) (λ i. unify_more s i ts rs ps) n k l e h
+
+  module _ (s ts : Bindings) (bs : WordList) (rs rs' : List ℕ) (a b : Term Variable) (tps : List Pair) (ps : List (ℕ × ℕ))
+      (left : DenotesPairs p m tps ps) (st : Stands p m bs (s ++ ts)) where
+    going : (bs' : WordList) (qs : List (ℕ × ℕ)) (e : words.Ended) (t : Turn)
+        → (r : Treats_as p m names bs (s ++ ts) rs rs' t (λ n. pair n (s ++ ts) a b))
+        → ((us : Bindings) (ups : List Pair) → Stands p m bs' (s ++ us) → DenotesPairs p m ups (qs ++ ps) → UnifiesAs p m s us rs' ups e)
+        → t ≡ goes bs' qs → UnifiesAs p m s ts rs ((a, b) ∷ tps) e
+    going bs' qs e t r rec h = go t r.step r.is refl h
+      where
+        made : (us : Bindings) (ups : List Pair) → (k : UnifiesAs p m s us rs' ups e)
+            → ((n : ℕ) → step_on (unify n s) ts (map p.name rs ++ r.reads) tps r.step ≡ unify n s us (map p.name rs') ups)
+            → UnifiesAs p m s ts rs ((a, b) ∷ tps) e
+        made us ups k same = record {
+          steps = suc (r.steps + k.steps);
+          end = k.end;
+          by_steps = one_step s ts (map p.name rs) a b tps (r.steps + k.steps) r.step r.reads (r.treats (r.steps + k.steps) (omega arith))
+              ∙ (same (r.steps + k.steps) ∙ enough s us k.steps (r.steps + k.steps) (map p.name rs') ups k.end (omega arith) k.by_steps);
+          alike = k.alike;
+        }
+
+        go : (t2 : Turn) (st2 : Step) → TurnIs p m names bs (s ++ ts) t2 st2 → r.step ≡ st2 → t2 ≡ goes bs' qs
+            → UnifiesAs p m s ts rs ((a, b) ∷ tps) e
+        go _ _ idle f i =
+            let j : bs ≡ bs' = cc in
+            let k : [] ≡ qs = cc in
+            made ts tps (rec ts tps (subst (λ (z : WordList). Stands p m z (s ++ ts)) j st)
+            (subst (λ (z : List (ℕ × ℕ)). DenotesPairs p m tps (z ++ ps)) k left))
+            (λ n. ap (step_on (unify n s) ts (map p.name rs ++ r.reads) tps) f ∙ ap (λ (z : List Variable). unify n s ts z tps)
+            (sym r.read))
+        go _ _ (bound bs2 v u x) f i =
+            let j : bs2 ≡ bs' = cc in
+            let k : [] ≡ qs = cc in
+            made (ts ++ (v, u) ∷ []) tps
+            (rec (ts ++ (v, u) ∷ []) tps
+            (subst (λ (z : Bindings). Stands p m bs' z) (append_assoc s ts ((v, u) ∷ []))
+            (subst (λ (z : WordList). Stands p m z ((s ++ ts) ++ (v, u) ∷ [])) j x))
+            (subst (λ (z : List (ℕ × ℕ)). DenotesPairs p m tps (z ++ ps)) k left))
+            (λ n. ap (step_on (unify n s) ts (map p.name rs ++ r.reads) tps) f ∙ ap
+            (λ (z : List Variable). unify n s (ts ++ (v, u) ∷ []) z tps) (sym r.read))
+        go _ _ (split vs tqs d) f i =
+            let j : bs ≡ bs' = cc in
+            let k : vs ≡ qs = cc in
+            made ts (tqs ++ tps)
+            (rec ts (tqs ++ tps) (subst (λ (z : WordList). Stands p m z (s ++ ts)) j st)
+            (subst (λ (z : List (ℕ × ℕ)). DenotesPairs p m (tqs ++ tps) (z ++ ps)) k (pairs_with tqs tps vs ps d left)))
+            (λ n. ap (step_on (unify n s) ts (map p.name rs ++ r.reads) tps) f ∙ ap (λ (z : List Variable). unify n s ts z (tqs ++ tps))
+            (sym r.read))
+        go _ _ unlike f i = cc
+        go _ _ halts f i = cc
+
+    clashing : (t : Turn) → (r : Treats_as p m names bs (s ++ ts) rs rs' t (λ n. pair n (s ++ ts) a b)) → t ≡ clashes
+        → UnifiesAs p m s ts rs ((a, b) ∷ tps) (words.clash rs')
+    clashing t r h = go t r.step r.is refl h
+      where
+        go : (t2 : Turn) (st2 : Step) → TurnIs p m names bs (s ++ ts) t2 st2 → r.step ≡ st2 → t2 ≡ clashes
+            → UnifiesAs p m s ts rs ((a, b) ∷ tps) (words.clash rs')
+        go _ _ idle f i = cc
+        go _ _ (bound bs2 v u x) f i = cc
+        go _ _ (split vs tqs d) f i = cc
+        go _ _ halts f i = cc
+        go _ _ unlike f i = record {
+          steps = suc r.steps;
+          end = endings.clash (map p.name rs');
+          by_steps = one_step s ts (map p.name rs) a b tps r.steps r.step r.reads (r.treats r.steps (omega arith)) ∙
+              (ap (step_on (unify r.steps s) ts (map p.name rs ++ r.reads) tps) f ∙ ap (λ (z : List Variable). Some (endings.clash z))
+              (sym r.read));
+          alike = denoted.clashed rs';
+        }
+
+    halting : (t : Turn) → (r : Treats_as p m names bs (s ++ ts) rs rs' t (λ n. pair n (s ++ ts) a b)) → t ≡ waits
+        → UnifiesAs p m s ts rs ((a, b) ∷ tps) (words.stop rs')
+    halting t r h = go t r.step r.is refl h
+      where
+        go : (t2 : Turn) (st2 : Step) → TurnIs p m names bs (s ++ ts) t2 st2 → r.step ≡ st2 → t2 ≡ waits
+            → UnifiesAs p m s ts rs ((a, b) ∷ tps) (words.stop rs')
+        go _ _ idle f i = cc
+        go _ _ (bound bs2 v u x) f i = cc
+        go _ _ (split vs tqs d) f i = cc
+        go _ _ unlike f i = cc
+        go _ _ halts f i = record {
+          steps = suc r.steps;
+          end = endings.wait (map p.name rs');
+          by_steps = one_step s ts (map p.name rs) a b tps r.steps r.step r.reads (r.treats r.steps (omega arith)) ∙
+              (ap (step_on (unify r.steps s) ts (map p.name rs ++ r.reads) tps) f ∙ ap (λ (z : List Variable). Some (endings.wait z))
+              (sym r.read));
+          alike = denoted.paused rs';
+        }
+
+  -- the unification of words is that of their terms, by some number of steps
+  pub unify_so : (s : Bindings) (bs : WordList) (rs : List ℕ) (ps : List (ℕ × ℕ)) (e : words.Ended) → Unifies m bs rs ps e
+      → (ts : Bindings) (tps : List Pair) → Stands p m bs (s ++ ts) → DenotesPairs p m tps ps → UnifiesAs p m s ts rs tps e
+  unify_so s _ _ _ _ (at_end bs rs) ts [] st d =
+      record { steps = 1; end = endings.done ts (map p.name rs); by_steps = refl; alike = finished bs rs ts st }
+  unify_so s _ _ _ _ (at_end bs rs) ts (t ∷ tps) st d = absurd d
+  unify_so s _ _ _ _ (on bs rs w ps bs' qs rs' e t u) ts [] st d = absurd d
+  unify_so s _ _ _ _ (on bs rs w ps bs' qs rs' e t u) ts (ab ∷ tps) st d =
+      going s ts bs rs rs' ab.0 ab.1 tps ps d.2 st bs' qs e (goes bs' qs)
+      (pair_so bs (s ++ ts) st rs rs' (goes bs' qs) w ab.0 ab.1 d.0 d.1 t)
+      (λ us ups z y. unify_so s bs' rs' (qs ++ ps) e u us ups z y) refl
+  unify_so s _ _ _ _ (clashed bs rs w ps rs' t) ts [] st d = absurd d
+  unify_so s _ _ _ _ (clashed bs rs w ps rs' t) ts (ab ∷ tps) st d =
+      clashing s ts bs rs rs' ab.0 ab.1 tps ps d.2 st clashes (pair_so bs (s ++ ts) st rs rs' clashes w ab.0 ab.1 d.0 d.1 t) refl
+  unify_so s _ _ _ _ (stopped bs rs w ps rs' t) ts [] st d = absurd d
+  unify_so s _ _ _ _ (stopped bs rs w ps rs' t) ts (ab ∷ tps) st d =
+      halting s ts bs rs rs' ab.0 ab.1 tps ps d.2 st waits (pair_so bs (s ++ ts) st rs rs' waits w ab.0 ab.1 d.0 d.1 t) refl
