@@ -8,6 +8,8 @@ const NONE: &[u32] = &[];
 
 const FIRST: &[u32] = &[1];
 
+const SECOND: &[u32] = &[2];
+
 /// The words of a line, with one space between two.
 fn words_in(alloc: Global, line: &str) -> Result<Vec<String>, Fail> {
     let mut words = Vec::new(alloc);
@@ -46,7 +48,7 @@ fn answered(
     Ok(run_alone(alloc, words.as_slice(), &mut shelf, sink))
 }
 
-/// The report of `p(X)` has 66 bytes, and the line `logix: not in this form` has 24.
+/// The report of `p(X)` has 66 bytes, and the line `logix: not in this form` has 24. Each text goes out by one put.
 #[test]
 fn calls_that_fail_are_told(rt: HostRuntime) -> Result<(), Fail> {
     let report =
@@ -62,27 +64,15 @@ fn calls_that_fail_are_told(rt: HostRuntime) -> Result<(), Fail> {
         ("run f true", NONE, NONE, 24, Status::Form, form),
         ("run f true", NONE, NONE, 23, Status::Sink, b""),
         ("run f true", FIRST, FIRST, 66, Status::Sink, b""),
-        ("show f", NONE, NONE, 6, Status::Shown, b"p(a).\n"),
+        ("show f", NONE, SECOND, 6, Status::Shown, b"p(a).\n"),
+        ("show f", NONE, FIRST, 6, Status::Sink, b""),
+        ("show f", NONE, NONE, 5, Status::Sink, b""),
     ];
     for (line, shelf_fails, sink_fails, room, status, text) in rows {
         let mut sink = sink_of(rt.alloc(), room, sink_fails)?;
         let given = answered(rt.alloc(), line, b"p(a).", shelf_fails, &mut sink)?;
         assert_eq!(rt; given, status, "{line}");
         assert_eq!(rt; sink.bytes(), text, "{line}");
-    }
-    Ok(())
-}
-
-/// Each of the first puts that fails: a front of the text is there, and not all of it.
-#[test]
-fn a_module_that_is_not_written_is_told(rt: HostRuntime) -> Result<(), Fail> {
-    let text = b"p(V1) :- q(V1).\nq(a).\n".as_slice();
-    for call in 1..4 {
-        let mut sink = sink_of(rt.alloc(), 100, &[call])?;
-        let given = answered(rt.alloc(), "show f", b"p(X):-q(X).q(a).", NONE, &mut sink)?;
-        assert_eq!(rt; given, Status::Sink, "{call}");
-        assert!(rt; text.starts_with(sink.bytes()), "{call}");
-        assert!(rt; sink.bytes().len() < text.len(), "{call}");
     }
     Ok(())
 }

@@ -1,198 +1,169 @@
--- The answers of a call, and what is written of them.
-use Rattle.std.proofs.Common.{◌≡◌, ℕ, ◌<◌, true, false, List, [], ◌∷◌, length, Option, Some, ap, sym, ◌∙◌, subst, refl, arith}
-use Rattle.std.specs.Prelude.{IsSomeAnd, codes}
+-- What is answered to the words, what is written of that, and that what can be done is done.
+use Rattle.std.proofs.Common.{◌≡◌, ℕ, ◌<◌, ◌≤◌, true, false, List, [], length, Option, Some, Ok, Err, ap, sym, ◌∙◌, subst, refl, arith}
+use Rattle.std.specs.Prelude.{Result, IfOk, IsSomeAnd}
 use Rattle.logix_edge.specs.declared.sink.Put.TheVariants as put
 use Rattle.logix_edge.specs.Causes.{Rose}
-use Rattle.logix_edge.specs.Shelves.{Entries, bytes_of, Told}
+use Rattle.logix_edge.specs.Shelves.{Entries, bytes_of}
 use Rattle.logix_edge.specs.Sinks.{IsPut}
-use Rattle.fcp_model.specs.declared.fault.Fault.{Fault}
-use Rattle.fcp_model.specs.declared.source.Module.{Module}
-use Rattle.fcp_model.specs.NameList.{reserved_names}
 use Rattle.fcp_model.specs.Spelling.{Bytes}
-use Rattle.fcp_loader.specs.Faults.{faults_of, goal_faults_of}
-use Rattle.fcp_loader.specs.Firsts.{first_of}
-use Rattle.fcp_reader.specs.Sources.{IsGoal, IsGoalFault}
-use Rattle.fcp_reader.proofs.TextLaws.{one-module, one-goal, no-module-fault, no-goal-fault}
+use Rattle.fcp_model.specs.declared.memory.NoMemory.{NoMemory}
 use Rattle.logix_app.specs.declared.answer.Answer.{Answer}
-use Rattle.logix_app.specs.declared.answer.Answer.TheVariants as answer
 use Rattle.logix_app.specs.declared.status.Status.{Status}
 use Rattle.logix_app.specs.declared.status.Status.TheVariants as status
-use Rattle.logix_app.specs.Headline.{IsAsked, Answers, Writes, IsThere, HasRun, HasFile, IsRunOrNoMemory, IsShownOrNoMemory, HasModuleFault, HasGoalFault, IsNotInForm, IsTooLong, HasShown}
-use Rattle.logix_app.specs.Loading.{IsLoadedModule, IsFirstFault, in_text, in_module, AreLoaded, IsFirstGoalFaultFor, IsFirstGoalFault, is_runnable}
-use Rattle.logix_app.specs.Loading as loading
-use Rattle.logix_app.specs.Parts.{status_of, text_of, AnswersRun, AnswersShow, AnswersRequest}
-use Rattle.logix_app.specs.Requests.{Request, run, show, file_of, IsReading}
+use Rattle.logix_app.specs.declared.words.Order.{Order}
+use Rattle.logix_app.specs.declared.words.Order.TheVariants.{Run, Show}
+use Rattle.logix_app.specs.Answers.{AnswersOrder, CanRun, CanShow, CanDo, IsNotInForm, IsDoneOrNoMemory}
+use Rattle.logix_app.specs.Headline.{Answers, WritesWhole, Writes, HasWork, IsFetched, IsAnswered, Completes}
+use Rattle.logix_app.specs.Loading.{is_runnable}
+use Rattle.logix_app.specs.Orders.{file_of, IsReading}
+use Rattle.logix_app.specs.Parts.{text_of}
+use Rattle.logix_app.proofs.KindsOfAnswers.{RunAnswer, ShowAnswer, CallAnswer, run-answer, show-answer, any-answer}
+use Rattle.logix_app.proofs.KindsOfAnswers as kinds
+use Rattle.logix_app.proofs.OneLoading.{Texts, no-fault, one-texts, no-first-goal-fault}
+use Rattle.logix_app.proofs.OneReading.{one-order}
+
+-- ---- what is answered
+
+-- no order is answered with one of these statuses
+not-usage : (o : Order) (file text : Bytes) → AnswersOrder o file status.Usage text → ⊥
+not-usage (Run name goal) file text a = a
+not-usage (Show name) file text a = a
+
+not-shelf : (o : Order) (file text : Bytes) → AnswersOrder o file status.Shelf text → ⊥
+not-shelf (Run name goal) file text a = a
+not-shelf (Show name) file text a = a
+
+not-too-long : (o : Order) (file text : Bytes) → AnswersOrder o file status.TooLong text → ⊥
+not-too-long (Run name goal) file text a = a
+not-too-long (Show name) file text a = a
+
+not-sink : (o : Order) (file text : Bytes) → AnswersOrder o file status.Sink text → ⊥
+not-sink (Run name goal) file text a = a
+not-sink (Show name) file text a = a
+
+no-memory : (o : Order) (file text : Bytes) → AnswersOrder o file status.NoMemory text → text ≡ []
+no-memory (Run name goal) file text a = a
+no-memory (Show name) file text a = a
 
 module _ (words : List Bytes) (held : Option Entries) (before now : ℕ) (last : Option Bytes) where
-  -- the answer to a run
-  run-answers : (file goal bytes : Bytes) (a : Answer) → IsAsked words held (run file goal) bytes → AnswersRun bytes goal a → Answers words held before now last (status_of a) (text_of a)
-  run-answers file goal bytes (answer.Ran r) asked t = record { file = file; goal = goal; bytes = bytes; asked = asked; m = t.m; g = t.g; names = t.names; loaded = t.loaded; runnable = t.runnable; report = t.report }
-  run-answers file goal bytes (answer.ModuleFault f line) asked t = (t.1, record { request = run file goal; bytes = bytes; asked = asked; first = t.0 })
-  run-answers file goal bytes (answer.GoalFault f line) asked t = (t.1, record { file = file; goal = goal; bytes = bytes; asked = asked; first = t.0 })
-  run-answers file goal bytes answer.NotInForm asked t = (refl, record { file = file; goal = goal; bytes = bytes; asked = asked; m = t.m; g = t.g; names = t.names; loaded = t.loaded; beyond = t.beyond })
-  run-answers file goal bytes answer.NoMemory asked t = refl
-  run-answers file goal bytes (answer.Shows names l) asked t = absurd t
-  run-answers file goal bytes answer.Usage asked t = absurd t
-  run-answers file goal bytes answer.ShelfFault asked t = absurd t
-  run-answers file goal bytes answer.TooLong asked t = absurd t
+  -- an answer to the order is one to the words
+  as-answer : (s : Status) (text : Bytes) → IsAnswered words held before now s text → Answers words held before now last s text
+  as-answer (status.Ended o) text a = a
+  as-answer status.Shown text a = a
+  as-answer (status.Module f) text a = a
+  as-answer (status.Goal f) text a = a
+  as-answer status.Form text a = a
+  as-answer status.NoMemory text a = no-memory a.order a.file text a.answers
+  as-answer status.Usage text a = absurd (not-usage a.order a.file text a.answers)
+  as-answer status.Shelf text a = absurd (not-shelf a.order a.file text a.answers)
+  as-answer status.TooLong text a = absurd (not-too-long a.order a.file text a.answers)
+  as-answer status.Sink text a = absurd (not-sink a.order a.file text a.answers)
 
-  -- the answer to a file that is to be shown
-  show-answers : (file bytes : Bytes) (a : Answer) → IsAsked words held (show file) bytes → AnswersShow bytes a → Answers words held before now last (status_of a) (text_of a)
-  show-answers file bytes (answer.Shows names l) asked t = record { file = file; bytes = bytes; asked = asked; m = l; names = names; loaded = t; canonical = refl }
-  show-answers file bytes (answer.ModuleFault f line) asked t = (t.1, record { request = show file; bytes = bytes; asked = asked; first = t.0 })
-  show-answers file bytes answer.NoMemory asked t = refl
-  show-answers file bytes (answer.Ran r) asked t = absurd t
-  show-answers file bytes (answer.GoalFault f line) asked t = absurd t
-  show-answers file bytes answer.NotInForm asked t = absurd t
-  show-answers file bytes answer.Usage asked t = absurd t
-  show-answers file bytes answer.ShelfFault asked t = absurd t
-  show-answers file bytes answer.TooLong asked t = absurd t
+  module _ (o : Order) (reading : IsReading words o) where
+    -- the bytes were fetched
+    fetched-answer : (bytes : Bytes) (s : Status) (text : Bytes) → IsFetched held (file_of o) bytes → now ≡ before
+        → AnswersOrder o bytes s text → Answers words held before now last s text
+    fetched-answer bytes s text f quiet a =
+        as-answer s text (record { order = o; reading = reading; file = bytes; fetched = f; answers = a; quiet = quiet })
 
-  -- the answer to what the words ask for is that to the words
-  pub request-answers : (r : Request) (bytes : Bytes) (a : Answer) → IsAsked words held r bytes → AnswersRequest r bytes a → Answers words held before now last (status_of a) (text_of a)
-  request-answers (run file goal) bytes a asked t = run-answers file goal bytes a asked t
-  request-answers (show file) bytes a asked t = show-answers file bytes a asked t
+    -- where memory did not run out
+    pub over-file-answers : (bytes : Bytes) (r : Result Answer NoMemory) → IsFetched held (file_of o) bytes → now ≡ before
+        → IfOk r (λ a. AnswersOrder o bytes a.status (text_of a.output))
+        → IfOk r (λ a. Answers words held before now last a.status (text_of a.output))
+    over-file-answers bytes (Ok a) f quiet h = fetched-answer bytes a.status (text_of a.output) f quiet h
+    over-file-answers bytes (Err e) f quiet h = tt
 
-  module _ (old new : Option Bytes) (counted count : ℕ) where
-    -- the whole text was put
-    pub writes-whole : (s : Status) (text : Bytes) → Answers words held before now last s text → IsPut old new counted count text put.Done → Writes (Answers words held before now last) old new counted count s
-    writes-whole status.Sink text a p = absurd a
-    writes-whole (status.Ended o) text a p = record { text = text; answers = a; written = p.0; quiet = p.1 }
-    writes-whole status.Shown text a p = record { text = text; answers = a; written = p.0; quiet = p.1 }
-    writes-whole status.Usage text a p = record { text = text; answers = a; written = p.0; quiet = p.1 }
-    writes-whole (status.Module f) text a p = record { text = text; answers = a; written = p.0; quiet = p.1 }
-    writes-whole (status.Goal f) text a p = record { text = text; answers = a; written = p.0; quiet = p.1 }
-    writes-whole status.Form text a p = record { text = text; answers = a; written = p.0; quiet = p.1 }
-    writes-whole status.Shelf text a p = record { text = text; answers = a; written = p.0; quiet = p.1 }
-    writes-whole status.TooLong text a p = record { text = text; answers = a; written = p.0; quiet = p.1 }
-    writes-whole status.NoMemory text a p = record { text = text; answers = a; written = p.0; quiet = p.1 }
+-- ---- what is written
 
-    -- a put failed
-    pub writes-front : (s : Status) (text : Bytes) → Answers words held before now last s text → IsPut old new counted count text put.Failed → Writes (Answers words held before now last) old new counted count status.Sink
-    writes-front s text a p = record { status = s; text = text; answers = a; count = p.front.0; written = p.front.1; rose = p.rose }
+module _ (words : List Bytes) (held : Option Entries) (before now : ℕ) (last : Option Bytes) (old new : Option Bytes) (counted count : ℕ) where
+  -- no status of an answer is that the sink failed
+  whole-text : (s : Status) (text : Bytes) → Answers words held before now last s text → WritesWhole (Answers words held before now last s) old new counted count
+      → Writes (Answers words held before now last) old new counted count s
+  whole-text status.Sink text a w = absurd a
+  whole-text (status.Ended o) text a w = w
+  whole-text status.Shown text a w = w
+  whole-text status.Usage text a w = w
+  whole-text (status.Module f) text a w = w
+  whole-text (status.Goal f) text a w = w
+  whole-text status.Form text a w = w
+  whole-text status.Shelf text a w = w
+  whole-text status.TooLong text a w = w
+  whole-text status.NoMemory text a w = w
 
--- ---- what has to be done is done
+  -- the whole text was put
+  pub writes-whole : (s : Status) (text : Bytes) → Answers words held before now last s text → IsPut old new counted count text put.Done
+      → Writes (Answers words held before now last) old new counted count s
+  writes-whole s text a p = whole-text s text a (record { text = text; answers = a; written = p.0; quiet = p.1 })
 
--- words have one reading
-same-request : (words : List Bytes) (r q : Request) → IsReading words r → IsReading words q → r ≡ q
-same-request words (run f g) (run h k) a b =
-    let e : codes "run" ∷ f ∷ g ∷ [] ≡ codes "run" ∷ h ∷ k ∷ [] = sym a.asks ∙ b.asks in
-    let i : f ≡ h = cc in
-    let j : g ≡ k = cc in
-    ap (λ x. run x g) i ∙ ap (run h) j
-same-request words (show f) (show h) a b =
-    let e : codes "show" ∷ f ∷ [] ≡ codes "show" ∷ h ∷ [] = sym a.asks ∙ b.asks in
-    let i : f ≡ h = cc in
-    ap show i
-same-request words (run f g) (show h) a b =
-    let e : codes "run" ∷ f ∷ g ∷ [] ≡ codes "show" ∷ h ∷ [] = sym a.asks ∙ b.asks in
-    cc
-same-request words (show f) (run h k) a b =
-    let e : codes "show" ∷ f ∷ [] ≡ codes "run" ∷ h ∷ k ∷ [] = sym a.asks ∙ b.asks in
-    cc
+-- ---- what can be done is done
 
-no-first : (faults : List Fault) (fault : Fault) → faults ≡ [] → first_of faults ≡ Some fault → ⊥
-no-first faults fault e f = let g : first_of [] ≡ Some fault = sym (ap first_of e) ∙ f in cc
+run-is-done : (name goal file : Bytes) (s : Status) (text : Bytes) → CanRun file goal → RunAnswer file goal s text → IsDoneOrNoMemory (Run name goal) s
+run-is-done name goal file s text can (kinds.ran o e r) = subst (IsDoneOrNoMemory (Run name goal)) (sym e) tt
+run-is-done name goal file s text can (kinds.module_fault f e line first) = absurd (no-fault file can.m can.loaded.before f can.loaded.loaded first)
+run-is-done name goal file s text can (kinds.goal_fault f e line first) =
+    absurd (no-first-goal-fault file goal can.m can.g can.names f can.loaded first)
+run-is-done name goal file s text can (kinds.beyond e line n) =
+    let same = one-texts file goal can.m n.m can.g n.g can.names n.names can.loaded n.loaded in
+    let both : true ≡ false = sym can.runnable ∙ ap (λ (t : Texts). is_runnable t.m t.g) same ∙ n.beyond in
+    absurd cc
 
-module _ (words : List Bytes) (held : Option Entries) (r : Request) (bytes : Bytes) (h : IsThere words held r bytes) where
-  told : (claim : Entries → Type 0) → Told held claim → claim h.entries
-  told claim t = subst (λ x. Told x claim) h.tells t
+show-is-done : (name file : Bytes) (s : Status) (text : Bytes) → CanShow file → ShowAnswer file s text → IsDoneOrNoMemory (Show name) s
+show-is-done name file s text can (kinds.shown e r) = subst (IsDoneOrNoMemory (Show name)) (sym e) tt
+show-is-done name file s text can (kinds.module_fault f e line first) = absurd (no-fault file can.m can.names f can.loaded first)
 
-  -- another call's request and bytes are these
-  same-bytes : (q : Request) (other : Bytes) → IsAsked words held q other → (q ≡ r) × (other ≡ bytes)
-  same-bytes q other a =
-      let e : q ≡ r = same-request words q r a.reading h.reading in
-      let t : bytes_of h.entries (file_of q) ≡ Some other = told (λ es. bytes_of es (file_of q) ≡ Some other) a.fetched.told in
-      let s : Some other ≡ Some bytes = sym t ∙ ap (λ x. bytes_of h.entries (file_of x)) e ∙ h.there in
-      let b : other ≡ bytes = cc in
-      (e, b)
+-- an answer over the file that is there
+order-is-done : (o : Order) (file : Bytes) (s : Status) (text : Bytes) → CanDo o file → AnswersOrder o file s text → (s ≡ status.NoMemory → ⊥)
+    → IsDoneOrNoMemory o s
+order-is-done (Run name goal) file s text can a enough = run-is-done name goal file s text can (run-answer file goal s text a enough)
+order-is-done (Show name) file s text can a enough = show-is-done name file s text can (show-answer file s text a enough)
 
-  above : (o : Option Bytes) → o ≡ Some bytes → IsSomeAnd o (λ bs. 1048576 < length bs) → ⊥
-  above o e a =
-      let s : 1048576 < length bytes = subst (λ x. IsSomeAnd x (λ bs. 1048576 < length bs)) e a in
-      omega (arith, s, h.within)
+above-limit : (o : Option Bytes) (file : Bytes) → o ≡ Some file → IsSomeAnd o (λ bytes. 1048576 < length bytes) → 1048576 < length file
+above-limit o file e a = subst (λ x. IsSomeAnd x (λ bytes. 1048576 < length bytes)) e a
 
-  pub not-too-long : IsTooLong words held → ⊥
-  not-too-long n =
-      let e : n.request ≡ r = same-request words n.request r n.reading h.reading in
-      above (bytes_of h.entries (file_of n.request)) (ap (λ x. bytes_of h.entries (file_of x)) e ∙ h.there) (told (λ es. IsSomeAnd (bytes_of es (file_of n.request)) (λ bs. 1048576 < length bs)) n.above)
+one-file : (file other : Bytes) (o : Option Bytes) → o ≡ Some file → o ≡ Some other → other ≡ file
+one-file file other o e d = let g : Some other ≡ Some file = sym d ∙ e in cc
 
-  -- a module without a fault has no first one
-  faultless-text : (m : Module) (names : List Bytes) (f : Fault) → IsLoadedModule bytes m names → IsFirstFault bytes f → ⊥
-  faultless-text m names f l (in_text t) = no-module-fault reserved_names bytes m f l.is_module t
-  faultless-text m names f l (in_module n is first) =
-      no-first (faults_of n) f (ap faults_of (one-module reserved_names bytes n m is l.is_module) ∙ l.faultless) first
+module _ (words : List Bytes) (entries : Entries) (before now : ℕ) (last : Option Bytes) (o : Order) (file : Bytes) (reading : IsReading words o) (there : bytes_of entries (file_of o) ≡ Some file) where
+  -- the file of an order that the words ask for
+  there-too : (p : Order) → IsReading words p → bytes_of entries (file_of p) ≡ Some file
+  there-too p r = ap (λ x. bytes_of entries (file_of x)) (one-order words p o r reading) ∙ there
 
-  pub no-fault : (m : Module) (names : List Bytes) (f : Fault) → IsLoadedModule bytes m names → HasModuleFault words held f → ⊥
-  no-fault m names f l n = faultless-text m names f l (subst (λ x. IsFirstFault x f) ((same-bytes n.request n.bytes n.asked).1) n.first)
+  -- the answer is over this file
+  over-file : (s : Status) (text : Bytes) → IsAnswered words (Some entries) before now s text → AnswersOrder o file s text
+  over-file s text a =
+      subst (λ x. AnswersOrder x file s text) (one-order words a.order o a.reading reading)
+      (subst (λ x. AnswersOrder a.order x s text) (one-file file a.file (bytes_of entries (file_of a.order)) (there-too a.order a.reading) a.fetched.told)
+      a.answers)
 
-same-goals : (f g h k : Bytes) → run f g ≡ run h k → g ≡ k
-same-goals f g h k e = cc
+  is-done : (s : Status) (text : Bytes) → CanDo o file → ¬ Rose before now → (s ≡ status.NoMemory → ⊥)
+      → length file ≤ 1048576 → CallAnswer words (Some entries) before now last s text → IsDoneOrNoMemory o s
+  is-done s text can quiet enough within (kinds.usage e a) = absurd (a.none o reading)
+  is-done s text can quiet enough within (kinds.shelf e a) = absurd (quiet a.rose)
+  is-done s text can quiet enough within (kinds.too_long e a) =
+      let long = above-limit (bytes_of entries (file_of a.order)) file (there-too a.order a.reading) a.above in
+      absurd (omega (arith, long, within))
+  is-done s text can quiet enough within (kinds.answered a) = order-is-done o file s text can (over-file s text a) enough
 
-apart : (f g h : Bytes) → run f g ≡ show h → ⊥
-apart f g h e = cc
+no-memory-is-done : (o : Order) → IsDoneOrNoMemory o status.NoMemory
+no-memory-is-done (Run name goal) = tt
+no-memory-is-done (Show name) = tt
 
-module _ (words : List Bytes) (held : Option Entries) (h : HasRun words held) where
-  -- a goal without a fault has no first one
-  faultless-goal : (m : Module) (before : List Bytes) (f : Fault) → m ≡ h.m → before ≡ h.loaded.before → IsFirstGoalFaultFor m before h.goal f → ⊥
-  faultless-goal m before f e b (loading.in_text t) = no-goal-fault h.loaded.before h.goal h.g f h.loaded.is_goal (subst (λ x. IsGoalFault x h.goal f) b t)
-  faultless-goal m before f e b (loading.in_goal g is first) =
-      let i : IsGoal h.loaded.before h.goal g = subst (λ x. IsGoal x h.goal g) b is in
-      let j : g ≡ h.g = one-goal h.loaded.before h.goal g h.g i h.loaded.is_goal in
-      no-first (goal_faults_of m g) f (ap (λ x. goal_faults_of x g) e ∙ ap (goal_faults_of h.m) j ∙ h.loaded.faultless) first
+module _ (words : List Bytes) (held : Option Entries) (before now : ℕ) (last : Option Bytes) (old new : Option Bytes) (counted count : ℕ) where
+  answered : (s : Status) → (s ≡ status.NoMemory → ⊥) → (o : Order) → HasWork words held o → ¬ Rose before now
+      → WritesWhole (Answers words held before now last s) old new counted count → IsDoneOrNoMemory o s
+  answered s enough o work quiet w =
+      is-done words work.entries before now last o work.file work.reading work.there s w.text work.can quiet enough work.within
+      (any-answer words (Some work.entries) before now last s w.text (subst (λ x. Answers words x before now last s w.text) work.tells w.answers) enough)
 
-  same-module : (bytes : Bytes) (m : Module) (names : List Bytes) → bytes ≡ h.bytes → IsLoadedModule bytes m names → (m ≡ h.m) × (names ≡ h.loaded.before)
-  same-module bytes m names e l =
-      let k : IsLoadedModule h.bytes m names = subst (λ x. IsLoadedModule x m names) e l in
-      (one-module reserved_names h.bytes m h.m k.is_module h.loaded.loaded.is_module, k.strings ∙ sym h.loaded.loaded.strings)
-
-  no-goal-fault-there : (f : Fault) → HasGoalFault words held f → ⊥
-  no-goal-fault-there f n =
-      let s = same-bytes words held (run h.file h.goal) h.bytes h.is_there (run n.file n.goal) n.bytes n.asked in
-      let k = same-module n.bytes n.first.m n.first.before s.1 n.first.loaded in
-      faultless-goal n.first.m n.first.before f k.0 k.1 (subst (λ x. IsFirstGoalFaultFor n.first.m n.first.before x f) (same-goals n.file n.goal h.file h.goal s.0) n.first.first)
-
-  in-form : IsNotInForm words held → ⊥
-  in-form n =
-      let s = same-bytes words held (run h.file h.goal) h.bytes h.is_there (run n.file n.goal) n.bytes n.asked in
-      let k = same-module n.bytes n.m n.loaded.before s.1 n.loaded.loaded in
-      let i : IsGoal h.loaded.before n.goal n.g = subst (λ x. IsGoal x n.goal n.g) k.1 n.loaded.is_goal in
-      let j : IsGoal h.loaded.before h.goal n.g = subst (λ x. IsGoal h.loaded.before x n.g) (same-goals n.file n.goal h.file h.goal s.0) i in
-      let g : n.g ≡ h.g = one-goal h.loaded.before h.goal n.g h.g j h.loaded.is_goal in
-      let t : true ≡ false = sym h.runnable ∙ sym (ap (λ x. is_runnable x h.g) k.0) ∙ sym (ap (is_runnable n.m) g) ∙ n.beyond in
-      cc
-
-  not-shown : (text : Bytes) → HasShown words held text → ⊥
-  not-shown text n = apart h.file h.goal n.file (same-request words (run h.file h.goal) (show n.file) h.is_there.reading n.asked.reading)
-
--- a goal that has to be run is run, unless a fault was counted or memory ran out
-pub has-run : (words : List Bytes) (held : Option Entries) (before now : ℕ) (last : Option Bytes) (old new : Option Bytes) (counted count : ℕ) (s : Status)
-    → Writes (Answers words held before now last) old new counted count s → HasRun words held → ¬ Rose before now → ¬ Rose counted count → IsRunOrNoMemory s
-has-run words held before now last old new counted count (status.Ended o) w h p q = tt
-has-run words held before now last old new counted count status.NoMemory w h p q = tt
-has-run words held before now last old new counted count status.Shown w h p q = not-shown words held h w.text w.answers
-has-run words held before now last old new counted count status.Usage w h p q = w.answers.1 (run h.file h.goal) h.is_there.reading
-has-run words held before now last old new counted count (status.Module f) w h p q = no-fault words held (run h.file h.goal) h.bytes h.is_there h.m h.loaded.before f h.loaded.loaded w.answers.1
-has-run words held before now last old new counted count (status.Goal f) w h p q = no-goal-fault-there words held h f w.answers.1
-has-run words held before now last old new counted count status.Form w h p q = in-form words held h w.answers.1
-has-run words held before now last old new counted count status.Shelf w h p q = p w.answers.1.rose
-has-run words held before now last old new counted count status.TooLong w h p q = not-too-long words held (run h.file h.goal) h.bytes h.is_there w.answers.1
-has-run words held before now last old new counted count status.Sink w h p q = q w.rose
-
-module _ (words : List Bytes) (held : Option Entries) (h : HasFile words held) where
-  not-run : (file goal : Bytes) → IsReading words (run file goal) → ⊥
-  not-run file goal a = apart file goal h.file (same-request words (run file goal) (show h.file) a h.is_there.reading)
-
--- a file that has to be shown is shown, unless a fault was counted or memory ran out
-pub has-shown : (words : List Bytes) (held : Option Entries) (before now : ℕ) (last : Option Bytes) (old new : Option Bytes) (counted count : ℕ) (s : Status)
-    → Writes (Answers words held before now last) old new counted count s → HasFile words held → ¬ Rose before now → ¬ Rose counted count → IsShownOrNoMemory s
-has-shown words held before now last old new counted count status.Shown w h p q = tt
-has-shown words held before now last old new counted count status.NoMemory w h p q = tt
-has-shown words held before now last old new counted count (status.Ended o) w h p q = not-run words held h w.answers.file w.answers.goal w.answers.asked.reading
-has-shown words held before now last old new counted count status.Usage w h p q = w.answers.1 (show h.file) h.is_there.reading
-has-shown words held before now last old new counted count (status.Module f) w h p q = no-fault words held (show h.file) h.bytes h.is_there h.m h.names f h.loaded w.answers.1
-has-shown words held before now last old new counted count (status.Goal f) w h p q = not-run words held h w.answers.1.file w.answers.1.goal w.answers.1.asked.reading
-has-shown words held before now last old new counted count status.Form w h p q = not-run words held h w.answers.1.file w.answers.1.goal w.answers.1.asked.reading
-has-shown words held before now last old new counted count status.Shelf w h p q = p w.answers.1.rose
-has-shown words held before now last old new counted count status.TooLong w h p q = not-too-long words held (show h.file) h.bytes h.is_there w.answers.1
-has-shown words held before now last old new counted count status.Sink w h p q = q w.rose
+  -- what was written with a status tells that the work was done, unless a fault was counted or memory ran out
+  pub completes : (s : Status) → Writes (Answers words held before now last) old new counted count s → Completes words held before now counted count s
+  completes status.NoMemory w o work p q = no-memory-is-done o
+  completes status.Sink w o work p q = absurd (q w.rose)
+  completes (status.Ended x) w o work p q = answered (status.Ended x) (λ e. cc) o work p w
+  completes status.Shown w o work p q = answered status.Shown (λ e. cc) o work p w
+  completes status.Usage w o work p q = answered status.Usage (λ e. cc) o work p w
+  completes (status.Module f) w o work p q = answered (status.Module f) (λ e. cc) o work p w
+  completes (status.Goal f) w o work p q = answered (status.Goal f) (λ e. cc) o work p w
+  completes status.Form w o work p q = answered status.Form (λ e. cc) o work p w
+  completes status.Shelf w o work p q = answered status.Shelf (λ e. cc) o work p w
+  completes status.TooLong w o work p q = answered status.TooLong (λ e. cc) o work p w

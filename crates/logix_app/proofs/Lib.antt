@@ -1,5 +1,8 @@
 pub mod Answering
 pub mod CalledItems
+pub mod KindsOfAnswers
 pub mod Loaded
+pub mod OneLoading
+pub mod OneReading
 pub mod Pieces
 pub mod Simple

@@ -1,12 +1,17 @@
 -- What the texts of a module and a goal are, and what is answered to them.
-use Rattle.std.proofs.Common.{◌≡◌, ◌≤◌, ℕ, true, false, List, [], length, ap, sym, ◌∙◌, subst, refl, arith, Ok, Err}
-use Rattle.std.specs.Prelude.{Result, IfOk, Some, codes, ◌&&◌}
+use Rattle.std.proofs.Common.{◌≡◌, ◌≤◌, ℕ, true, List, [], length, ap, sym, ◌∙◌, subst, refl, arith, Ok, Err}
+use Rattle.std.specs.Prelude.{Result, IfOk, ◌&&◌}
 use Rattle.std.proofs.lemmas.Bool.{and_parts}
-use Rattle.fcp_model.specs.declared.fault.Fault.{Fault}
+use Rattle.fcp_model.specs.declared.memory.NoMemory.{NoMemory}
 use Rattle.fcp_model.specs.declared.fault.Refused.{Refused}
 use Rattle.fcp_model.specs.declared.fault.Refused.TheVariants as refused
 use Rattle.fcp_model.specs.declared.source.Module.{Module}
 use Rattle.fcp_model.specs.declared.source.GoalText.{GoalText}
+use Rattle.fcp_model.specs.declared.run.Outcome.{Outcome}
+use Rattle.fcp_model.specs.ReportText.{goal_variables}
+use Rattle.fcp_model.specs.Reports.{IsOneWorkerReport}
+use Rattle.fcp_model.specs.Translation.{program_of, start_of, started_goals}
+use Rattle.fcp_text.specs.SourceClauses.{module_text}
 use Rattle.plain_engine.specs.CalledItems.{bodies_called, goal_called}
 use Rattle.fcp_model.specs.NameList.{reserved_names}
 use Rattle.fcp_model.specs.Spelling.{Bytes}
@@ -18,12 +23,14 @@ use Rattle.fcp_reader.proofs.TextLimits.{texts_keep_limits_law}
 use Rattle.plain_engine.specs.Plain.{IsPlain, IsPlainGoal}
 use Rattle.logix_app.specs.FirstForms.{is_simple_module, is_simple_goal}
 use Rattle.logix_app.proofs.Simple.{simple_module, simple_goal}
+use Rattle.fcp_laws.proofs.LawfulReports.{is_run_report}
+use Rattle.fcp_laws.proofs.SoundSchedules.{start_ordered}
+use Rattle.reading_laws.proofs.ReadAgain.{canonical_texts}
 use Rattle.logix_app.specs.declared.answer.Answer.{Answer}
-use Rattle.logix_app.specs.declared.answer.Answer.TheVariants as answer
-use Rattle.logix_app.specs.Headline.{fault_line}
-use Rattle.logix_app.specs.Loading.{IsLoadedModule, IsFirstFault, in_module, AreLoaded, IsFirstGoalFaultFor, is_runnable}
+use Rattle.logix_app.specs.Answers.{default_limits, IsRunOf, IsShownAs, AnswersRun, AnswersShow}
+use Rattle.logix_app.specs.Loading.{IsLoadedModule, in_module, AreLoaded, is_runnable}
 use Rattle.logix_app.specs.Loading as loading
-use Rattle.logix_app.specs.Parts.{LoadsText, IsLoadedGoal, LoadsGoalText, AnswersLoaded, AnswersGoal, AnswersRun, AnswersShow, TellsModuleFault, TellsGoalFault, TellsModule, TellsGoal}
+use Rattle.logix_app.specs.Parts.{text_of, LoadsText, IsLoadedGoal, LoadsGoalText, TellsModule, TellsGoal}
 
 -- a module that was read is loaded
 pub loads-text : (before : List Bytes) (file : Bytes) (after : List Bytes) (m : Module) (r : Result Module Refused) → before ≡ reserved_names → ReadsModule before file after (Ok m) → Loads m r → LoadsText file after r
@@ -55,66 +62,36 @@ pub refuses-goal : (m : Module) (before : List Bytes) (goal : Bytes) (after : Li
 refuses-goal m before goal after (refused.Fault f) read = loading.in_text read
 refuses-goal m before goal after (refused.NoMemory n) read = tt
 
--- the answer to a goal that was loaded is that to its text
-pub loaded-answers : (m : Module) (before : List Bytes) (goal : Bytes) (g : GoalText) (names : List Bytes) (a : Answer) → IsLoadedGoal m before goal g names → AnswersLoaded names m g a → AnswersGoal before m goal a
-loaded-answers m before goal g names (answer.Ran r) l t = record { g = g; names = names; loaded = l; runnable = t.0; report = t.1 }
-loaded-answers m before goal g names answer.NotInForm l t = record { g = g; names = names; loaded = l; beyond = t }
-loaded-answers m before goal g names answer.NoMemory l t = tt
-loaded-answers m before goal g names (answer.Shows ns x) l t = absurd t
-loaded-answers m before goal g names (answer.ModuleFault f line) l t = absurd t
-loaded-answers m before goal g names (answer.GoalFault f line) l t = absurd t
-loaded-answers m before goal g names answer.Usage l t = absurd t
-loaded-answers m before goal g names answer.ShelfFault l t = absurd t
-loaded-answers m before goal g names answer.TooLong l t = absurd t
+-- a goal that was loaded for a loaded module
+pub both-loaded : (file goal : Bytes) (m : Module) (before : List Bytes) (g : GoalText) (names : List Bytes) → IsLoadedModule file m before
+    → IsLoadedGoal m before goal g names → AreLoaded file goal m g names
+both-loaded file goal m before g names l t =
+    record { before = before; loaded = l; is_goal = t.is_goal; faultless = t.faultless; strings = t.strings }
 
-pub goal-fault-answers : (m : Module) (before : List Bytes) (goal : Bytes) (f : Fault) (a : Answer) → IsFirstGoalFaultFor m before goal f → TellsGoalFault f a → AnswersGoal before m goal a
-goal-fault-answers m before goal f (answer.GoalFault g line) h t = (subst (IsFirstGoalFaultFor m before goal) (sym t.0) h, t.1 ∙ ap (fault_line (codes "goal")) (sym t.0))
-goal-fault-answers m before goal f answer.NoMemory h t = tt
-goal-fault-answers m before goal f (answer.Ran r) h t = absurd t
-goal-fault-answers m before goal f (answer.Shows ns x) h t = absurd t
-goal-fault-answers m before goal f (answer.ModuleFault g line) h t = absurd t
-goal-fault-answers m before goal f answer.NotInForm h t = absurd t
-goal-fault-answers m before goal f answer.Usage h t = absurd t
-goal-fault-answers m before goal f answer.ShelfFault h t = absurd t
-goal-fault-answers m before goal f answer.TooLong h t = absurd t
+-- the engine's report is the answer
+pub ran : (file goal : Bytes) (m : Module) (g : GoalText) (names : List Bytes) (o : Outcome) (text : Bytes) → AreLoaded file goal m g names
+    → is_runnable m g ≡ true
+    → IsOneWorkerReport (program_of m) (start_of m g) default_limits [] names (goal_variables g.names) o text → IsRunOf file goal o text
+ran file goal m g names o text l runnable r = record {
+  m = m;
+  g = g;
+  names = names;
+  loaded = l;
+  runnable = runnable;
+  is_run = is_run_report (program_of m) (start_of m g) default_limits [] names (goal_variables g.names) o text
+      (start_ordered (length g.names) (started_goals m g)) refl tt r;
+  by_one_worker = r;
+}
 
-both-loaded : (file goal : Bytes) (m : Module) (before : List Bytes) (g : GoalText) (names : List Bytes) → IsLoadedModule file m before → IsLoadedGoal m before goal g names → AreLoaded file goal m g names
-both-loaded file goal m before g names l k = record { before = before; loaded = l; is_goal = k.is_goal; faultless = k.faultless; strings = k.strings }
-
--- the answer to a goal's text for a loaded module is that to both texts
-pub goal-answers : (file goal : Bytes) (m : Module) (before : List Bytes) (a : Answer) → IsLoadedModule file m before → AnswersGoal before m goal a → AnswersRun file goal a
-goal-answers file goal m before (answer.Ran r) l t = record { m = m; g = t.g; names = t.names; loaded = both-loaded file goal m before t.g t.names l t.loaded; runnable = t.runnable; report = t.report }
-goal-answers file goal m before (answer.GoalFault f line) l t = (record { m = m; before = before; loaded = l; first = t.0 }, t.1)
-goal-answers file goal m before answer.NotInForm l t = record { m = m; g = t.g; names = t.names; loaded = both-loaded file goal m before t.g t.names l t.loaded; beyond = t.beyond }
-goal-answers file goal m before answer.NoMemory l t = tt
-goal-answers file goal m before (answer.Shows ns x) l t = absurd t
-goal-answers file goal m before (answer.ModuleFault f line) l t = absurd t
-goal-answers file goal m before answer.Usage l t = absurd t
-goal-answers file goal m before answer.ShelfFault l t = absurd t
-goal-answers file goal m before answer.TooLong l t = absurd t
-
--- a fault of the file, where a goal is to be run, and where the file is to be shown
-pub fault-answers-run : (file goal : Bytes) (f : Fault) (a : Answer) → IsFirstFault file f → TellsModuleFault f a → AnswersRun file goal a
-fault-answers-run file goal f (answer.ModuleFault g line) h t = (subst (IsFirstFault file) (sym t.0) h, t.1 ∙ ap (fault_line (codes "module")) (sym t.0))
-fault-answers-run file goal f answer.NoMemory h t = tt
-fault-answers-run file goal f (answer.Ran r) h t = absurd t
-fault-answers-run file goal f (answer.Shows ns x) h t = absurd t
-fault-answers-run file goal f (answer.GoalFault g line) h t = absurd t
-fault-answers-run file goal f answer.NotInForm h t = absurd t
-fault-answers-run file goal f answer.Usage h t = absurd t
-fault-answers-run file goal f answer.ShelfFault h t = absurd t
-fault-answers-run file goal f answer.TooLong h t = absurd t
-
-pub fault-answers-show : (file : Bytes) (f : Fault) (a : Answer) → IsFirstFault file f → TellsModuleFault f a → AnswersShow file a
-fault-answers-show file f (answer.ModuleFault g line) h t = (subst (IsFirstFault file) (sym t.0) h, t.1 ∙ ap (fault_line (codes "module")) (sym t.0))
-fault-answers-show file f answer.NoMemory h t = tt
-fault-answers-show file f (answer.Ran r) h t = absurd t
-fault-answers-show file f (answer.Shows ns x) h t = absurd t
-fault-answers-show file f (answer.GoalFault g line) h t = absurd t
-fault-answers-show file f answer.NotInForm h t = absurd t
-fault-answers-show file f answer.Usage h t = absurd t
-fault-answers-show file f answer.ShelfFault h t = absurd t
-fault-answers-show file f answer.TooLong h t = absurd t
+-- the canonical text is the answer
+pub shown : (file : Bytes) (m : Module) (names : List Bytes) → IsLoadedModule file m names → IsShownAs file (module_text names m)
+shown file m names l = record {
+  m = m;
+  names = names;
+  loaded = l;
+  canonical = refl;
+  reads_back = canonical_texts file m names l.is_module l.faultless l.strings;
+}
 
 -- what runs is what the engine takes, where it keeps the limits
 pub plain-module : (m : Module) (g : GoalText) → is_runnable m g ≡ true → is_module_within m ≡ true → length m.clauses ≤ 1048576 → IsPlain m
@@ -137,14 +114,22 @@ within-goal m before goal after g (Ok l) read load = subst (λ (x : GoalText). i
 within-goal m before goal after g (Err e) read load = tt
 
 -- the answers where a module or a goal was refused
-pub refused-run : (file goal : Bytes) (names : List Bytes) (r : Refused) (a : Answer) → LoadsText file names (Err r) → TellsModule r a → AnswersRun file goal a
-refused-run file goal names (refused.Fault f) a l t = fault-answers-run file goal f a l t
-refused-run file goal names (refused.NoMemory n) a l t = subst (AnswersRun file goal) (sym t) tt
+pub refused-run : (file goal : Bytes) (names : List Bytes) (r : Refused) (a : Result Answer NoMemory) → LoadsText file names (Err r)
+    → IfOk a (TellsModule r) → IfOk a (λ x. AnswersRun file goal x.status (text_of x.output))
+refused-run file goal names (refused.Fault f) (Ok a) l t = subst (λ s. AnswersRun file goal s (text_of a.output)) (sym t.0) (t.1, l)
+refused-run file goal names (refused.NoMemory n) (Ok a) l t = absurd t
+refused-run file goal names r (Err e) l t = tt
 
-pub refused-show : (file : Bytes) (names : List Bytes) (r : Refused) (a : Answer) → LoadsText file names (Err r) → TellsModule r a → AnswersShow file a
-refused-show file names (refused.Fault f) a l t = fault-answers-show file f a l t
-refused-show file names (refused.NoMemory n) a l t = subst (AnswersShow file) (sym t) tt
+pub refused-show : (file : Bytes) (names : List Bytes) (r : Refused) (a : Result Answer NoMemory) → LoadsText file names (Err r)
+    → IfOk a (TellsModule r) → IfOk a (λ x. AnswersShow file x.status (text_of x.output))
+refused-show file names (refused.Fault f) (Ok a) l t = subst (λ s. AnswersShow file s (text_of a.output)) (sym t.0) (t.1, l)
+refused-show file names (refused.NoMemory n) (Ok a) l t = absurd t
+refused-show file names r (Err e) l t = tt
 
-pub refused-goal : (m : Module) (before : List Bytes) (goal : Bytes) (names : List Bytes) (r : Refused) (a : Answer) → LoadsGoalText m before goal names (Err r) → TellsGoal r a → AnswersGoal before m goal a
-refused-goal m before goal names (refused.Fault f) a l t = goal-fault-answers m before goal f a l t
-refused-goal m before goal names (refused.NoMemory n) a l t = subst (AnswersGoal before m goal) (sym t) tt
+pub refused-goal : (file goal : Bytes) (m : Module) (before names : List Bytes) (r : Refused) (a : Result Answer NoMemory)
+    → IsLoadedModule file m before → LoadsGoalText m before goal names (Err r) → IfOk a (TellsGoal r)
+    → IfOk a (λ x. AnswersRun file goal x.status (text_of x.output))
+refused-goal file goal m before names (refused.Fault f) (Ok a) l first t =
+    subst (λ s. AnswersRun file goal s (text_of a.output)) (sym t.0) (t.1, record { m = m; before = before; loaded = l; first = first })
+refused-goal file goal m before names (refused.NoMemory n) (Ok a) l first t = absurd t
+refused-goal file goal m before names r (Err e) l first t = tt

@@ -1,6 +1,8 @@
+pub mod Answers
 pub mod FirstForms
 pub mod Headline
+pub mod Lines
 pub mod Loading
+pub mod Orders
 pub mod Parts
-pub mod Requests
 pub mod Statuses

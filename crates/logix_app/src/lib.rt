@@ -3,11 +3,11 @@
 
 ghost use Rattle.std.specs.Prelude.{◌≡◌, map};
 ghost use Rattle.std.specs.String.{string_bytes};
-ghost use Rattle.logix_edge.specs.Causes.{Rose};
-ghost use Rattle.logix_app.specs.Headline.{Answers, Writes, HasRun, IsRunOrNoMemory, HasFile, IsShownOrNoMemory};
+ghost use Rattle.logix_app.specs.Headline.{Answers, Writes, Completes};
 
 mod answer;
 mod called;
+mod fetching;
 mod first_form;
 mod lines;
 mod loading;
@@ -15,10 +15,12 @@ mod status;
 mod words;
 mod writing;
 
-use answer::answer_of;
+use fetching::answer_of;
 use logix_edge::{Put, Shelf, Sink};
 pub use status::Status;
 use std::alloc::Global;
+pub use words::{Order, WordFault, read_words};
+use writing::put_all;
 
 /// Does what the words ask for. `run FILE GOAL` runs the goal over the module of the file, with one worker, and puts the
 /// report to the sink; `show FILE` puts the module's canonical text. Any other answer but that memory ran out is a line of
@@ -35,17 +37,14 @@ pub fn run_alone<S: Shelf, K: Sink>(
         (Answers (map string_bytes words.now) (S.held shelf.old) (S.faults shelf.old) (S.faults shelf.new) (S.last_failed shelf.new))
         (K.written sink.old) (K.written sink.new) (K.faults sink.old) (K.faults sink.new) result }
 
-    ensures runs { HasRun (map string_bytes words.now) (S.held shelf.old)
-        → ¬ Rose (S.faults shelf.old) (S.faults shelf.new) → ¬ Rose (K.faults sink.old) (K.faults sink.new)
-        → IsRunOrNoMemory result }
-
-    ensures shows { HasFile (map string_bytes words.now) (S.held shelf.old)
-        → ¬ Rose (S.faults shelf.old) (S.faults shelf.new) → ¬ Rose (K.faults sink.old) (K.faults sink.new)
-        → IsShownOrNoMemory result }
+    ensures completes { Completes (map string_bytes words.now) (S.held shelf.old)
+        (S.faults shelf.old) (S.faults shelf.new) (K.faults sink.old) (K.faults sink.new) result }
 {
-    let answer = answer_of(alloc, words, shelf);
-    match answer.put(sink) {
-        Put::Done => answer.status(),
+    let Ok(answer) = answer_of(alloc, words, shelf) else {
+        return Status::NoMemory;
+    };
+    match put_all(sink, answer.text()) {
+        Put::Done => answer.status,
         Put::Failed => Status::Sink,
     }
 }

@@ -1,36 +1,37 @@
 //! The lines of faults.
 ghost use Rattle.std.specs.Prelude.{◌≡◌, IfOk};
-ghost use Rattle.logix_app.specs.Headline.{fault_line};
+ghost use Rattle.logix_app.specs.Lines.{fault_line};
 ghost use Rattle.logix_app.specs.Parts.{TellsModule, TellsGoal};
 
-use crate::answer::Answer;
+use crate::Status;
+use crate::answer::{Answer, Output};
 use fcp_model::spelling::{push_bytes, push_decimal};
 use fcp_model::{Fault, NoMemory, Refused};
 use std::alloc::Global;
 
 /// The answer where a module was refused.
-pub fn module_refusal(alloc: Global, refused: Refused) -> Answer
-    ensures { TellsModule refused result }
+pub fn module_refusal(alloc: Global, refused: Refused) -> Result<Answer, NoMemory>
+    ensures { IfOk result (TellsModule refused) }
 {
     match refused {
-        Refused::Fault(fault) => match fault_line(alloc, b"module", fault) {
-            Ok(line) => Answer::ModuleFault(fault, line),
-            Err(_) => Answer::NoMemory,
-        },
-        Refused::NoMemory(_) => Answer::NoMemory,
+        Refused::Fault(fault) => Ok(Answer {
+            status: Status::Module(fault),
+            output: Output::Text(fault_line(alloc, b"module", fault)?),
+        }),
+        Refused::NoMemory(_) => Err(NoMemory),
     }
 }
 
 /// The answer where a goal was refused.
-pub fn goal_refusal(alloc: Global, refused: Refused) -> Answer
-    ensures { TellsGoal refused result }
+pub fn goal_refusal(alloc: Global, refused: Refused) -> Result<Answer, NoMemory>
+    ensures { IfOk result (TellsGoal refused) }
 {
     match refused {
-        Refused::Fault(fault) => match fault_line(alloc, b"goal", fault) {
-            Ok(line) => Answer::GoalFault(fault, line),
-            Err(_) => Answer::NoMemory,
-        },
-        Refused::NoMemory(_) => Answer::NoMemory,
+        Refused::Fault(fault) => Ok(Answer {
+            status: Status::Goal(fault),
+            output: Output::Text(fault_line(alloc, b"goal", fault)?),
+        }),
+        Refused::NoMemory(_) => Err(NoMemory),
     }
 }
 

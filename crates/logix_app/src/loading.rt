@@ -1,19 +1,24 @@
 //! The answers to the texts of a module and a goal.
 ghost use Rattle.std.specs.Prelude.{◌≡◌, ◌≤◌, true, length, IfOk};
 ghost use Rattle.fcp_model.specs.NameList.{reserved_names};
+ghost use Rattle.fcp_model.specs.Spelling.{Bytes};
+ghost use Rattle.fcp_text.specs.SourceClauses.{module_text};
 ghost use Rattle.fcp_reader.specs.Limits.{is_module_within, is_goal_within};
-ghost use Rattle.logix_app.specs.Headline.{default_limits};
-ghost use Rattle.logix_app.specs.Loading.{is_runnable};
-ghost use Rattle.logix_app.specs.Parts.{LoadsText, LoadsGoalText, AnswersRun, AnswersShow, AnswersLoaded, AnswersGoal};
+ghost use Rattle.logix_app.specs.Answers.{default_limits, AnswersRun, AnswersShow};
+ghost use Rattle.logix_app.specs.Loading.{IsLoadedModule, AreLoaded, is_runnable};
+ghost use Rattle.logix_app.specs.Parts.{text_of, LoadsText, LoadsGoalText};
 
-use crate::answer::Answer;
+use crate::Status;
+use crate::answer::{Answer, Output};
 use crate::called::{are_bodies_called, are_called};
 use crate::first_form::{is_simple_goal, is_simple_module};
 use crate::lines::{goal_refusal, module_refusal};
 use fcp_loader::{load, load_goal};
-use fcp_model::{GoalText, Limits, Loaded, LoadedGoal, Names, Refused};
+use fcp_model::{GoalText, Limits, Loaded, LoadedGoal, Names, NoMemory, Refused};
 use fcp_reader::{read_goal, read_module};
-use plain_engine::run_goal;
+use fcp_text::write_module;
+use logix_edge::Gathered;
+use plain_engine::{Report, run_goal};
 use std::alloc::Global;
 
 /// The most commits of a run.
@@ -76,29 +81,42 @@ fn is_runnable(loaded: &Loaded, goal: &GoalText) -> bool
         && are_called(loaded, goal.items.as_slice())
 }
 
-/// The run of a goal over a module, where both are of what runs so far. Both keep the limits of arguments, parts, variables and items.
-fn answer_loaded(alloc: Global, names: &Names, loaded: &Loaded, goal: &GoalText) -> Answer
+/// The answer to a goal for a module, which keep the limits of arguments, parts, variables and items.
+fn answer_loaded(
+    alloc: Global,
+    names: &Names,
+    loaded: &Loaded,
+    goal: &GoalText,
+) -> Result<Answer, NoMemory>
     requires within { is_module_within loaded.now ≡ true }
     requires few { length loaded.now.clauses ≤ 1048576 }
     requires goal_within { is_goal_within goal.now ≡ true }
-    ensures { AnswersLoaded names.now loaded.now goal.now result }
+    ensures { (file text : Bytes) → AreLoaded file text loaded.now goal.now names.now
+        → IfOk result (λ a. AnswersRun file text a.status (text_of a.output)) }
 {
     if is_runnable(loaded, goal) {
-        match run_goal(alloc, names, loaded, goal, limits()) {
-            Ok(report) => Answer::Ran(report),
-            Err(_) => Answer::NoMemory,
-        }
+        let Report { outcome, text } = run_goal(alloc, names, loaded, goal, limits())?;
+        Ok(Answer {
+            status: Status::Ended(outcome),
+            output: Output::Text(text),
+        })
     } else {
-        Answer::NotInForm
+        Ok(Answer::line(Status::Form, b"logix: not in this form\n"))
     }
 }
 
-/// The answer to the text of a goal for a module that keeps these limits.
-fn answer_goal(alloc: Global, names: Names, loaded: &Loaded, goal: &[u8]) -> Answer
+/// The answer to the text of a goal for a module that keeps these limits, and that was loaded from some file.
+fn answer_goal(
+    alloc: Global,
+    names: Names,
+    loaded: &Loaded,
+    goal: &[u8],
+) -> Result<Answer, NoMemory>
     requires short { length goal.now ≤ 1048576 }
     requires within { is_module_within loaded.now ≡ true }
     requires few { length loaded.now.clauses ≤ 1048576 }
-    ensures { AnswersGoal names loaded.now goal.now result }
+    ensures { (file : Bytes) → IsLoadedModule file loaded.now names
+        → IfOk result (λ a. AnswersRun file goal.now a.status (text_of a.output)) }
 {
     let mut names = names;
     match load_goal_text(alloc, loaded, goal, &mut names) {
@@ -108,14 +126,12 @@ fn answer_goal(alloc: Global, names: Names, loaded: &Loaded, goal: &[u8]) -> Ans
 }
 
 /// The answer to the texts of a file and a goal that is to be run over it.
-pub fn answer_run(alloc: Global, file: &[u8], goal: &[u8]) -> Answer
+pub fn answer_run(alloc: Global, file: &[u8], goal: &[u8]) -> Result<Answer, NoMemory>
     requires file { length file.now ≤ 1048576 }
     requires goal { length goal.now ≤ 1048576 }
-    ensures { AnswersRun file.now goal.now result }
+    ensures { IfOk result (λ a. AnswersRun file.now goal.now a.status (text_of a.output)) }
 {
-    let Ok(mut names) = Names::for_text(alloc, file) else {
-        return Answer::NoMemory;
-    };
+    let mut names = Names::for_text(alloc, file)?;
     match load_text(alloc, file, &mut names) {
         Ok(loaded) => answer_goal(alloc, names, &loaded, goal),
         Err(refused) => module_refusal(alloc, refused),
@@ -123,15 +139,27 @@ pub fn answer_run(alloc: Global, file: &[u8], goal: &[u8]) -> Answer
 }
 
 /// The answer to the text of a file that is to be shown.
-pub fn answer_show(alloc: Global, file: &[u8]) -> Answer
+pub fn answer_show(alloc: Global, file: &[u8]) -> Result<Answer, NoMemory>
     requires { length file.now ≤ 1048576 }
-    ensures { AnswersShow file.now result }
+    ensures { IfOk result (λ a. AnswersShow file.now a.status (text_of a.output)) }
 {
-    let Ok(mut names) = Names::for_text(alloc, file) else {
-        return Answer::NoMemory;
-    };
+    let mut names = Names::for_text(alloc, file)?;
     match load_text(alloc, file, &mut names) {
-        Ok(loaded) => Answer::Shows(names, loaded),
+        Ok(loaded) => Ok(Answer {
+            status: Status::Shown,
+            output: Output::Text(canonical_text(alloc, &names, &loaded)?),
+        }),
         Err(refused) => module_refusal(alloc, refused),
+    }
+}
+
+/// The canonical text of a module, whose strings these are.
+fn canonical_text(alloc: Global, names: &Names, loaded: &Loaded) -> Result<Vec<u8>, NoMemory>
+    ensures { IfOk result (λ text. text.items ≡ module_text names.now loaded.now) }
+{
+    let mut gathered = Gathered::make(alloc);
+    match write_module(names, loaded.module(), &mut gathered) {
+        Ok(()) => Ok(gathered.into_bytes()),
+        Err(_) => Err(NoMemory),
     }
 }

@@ -1,54 +1,93 @@
 //! The words of the command line.
-ghost use Rattle.std.specs.Prelude.{◌≡◌, [], ◌∷◌, map, MatchOption};
+ghost use Rattle.std.specs.Prelude.{◌≡◌, [], ◌∷◌, map};
 ghost use Rattle.std.specs.String.{string_bytes};
-ghost use Rattle.logix_app.specs.Parts.{request_of};
-ghost use Rattle.logix_app.specs.Requests.{is_word, file_of, IsReading, HasNoReading};
+ghost use Rattle.logix_app.specs.Orders.{is_word, file_of, ReadsWords};
+
+use fcp_model::{NoMemory, Text};
+use std::alloc::Global;
+use thiserror::Error;
 
 /// The most bytes of a word.
-const MOST_WORD_BYTES: usize = 65536;
+const MOST_WORD_BYTES: usize = 65_536;
 
-/// What the words ask for.
-#[derive(Clone, Copy)]
-pub enum Request<'a> {
-    /// The run of a goal, by its text, over a file, by its name.
-    Run { file: &'a str, goal: &'a str },
-    /// The canonical text of a file, by its name.
-    Show { file: &'a str },
+/// What the words of a call ask for.
+#[derive(Debug, Drop)]
+pub enum Order {
+    /// The run of a goal, by its text, over the module of a file, by its name.
+    Run { file: Text, goal: Text },
+    /// The canonical text of the module of a file, by its name.
+    Show { file: Text },
 }
 
-/// The reading of words, or `None` exactly where they have none.
-pub fn reading(words: &[String]) -> Option<Request>
-    ensures { MatchOption result (HasNoReading (map string_bytes words.now))
-        (λ r. IsReading (map string_bytes words.now) (request_of r)) }
+impl Order {
+    /// The name of the file.
+    pub fn file(&self) -> &str
+        ensures { result.now ≡ file_of self.now }
+    {
+        match self {
+            Order::Run { file, goal: _ } => file.as_str(),
+            Order::Show { file } => file.as_str(),
+        }
+    }
+}
+
+/// Why words gave no order.
+#[derive(Clone, Copy, Debug, PartialEq, Eq, Error)]
+pub enum WordFault {
+    /// The words ask for nothing.
+    #[error("the words are neither `run FILE GOAL` nor `show FILE`")]
+    Usage,
+    /// Memory ran out.
+    #[error("out of memory")]
+    NoMemory,
+}
+
+impl From<NoMemory> for WordFault {
+    ghost use Rattle.logix_app.specs.declared.words.WordFault.TheVariants as fault;
+
+    ghost from_gives = { λ _ e. e ≡ fault.NoMemory };
+
+    fn from(_error: NoMemory) -> WordFault {
+        WordFault::NoMemory
+    }
+}
+
+/// What the words of a call ask for: `run FILE GOAL` or `show FILE`. A FILE or a GOAL is not empty, has at most 65,536
+/// bytes, and has no `-` in front.
+pub fn read_words(alloc: Global, words: &[String]) -> Result<Order, WordFault>
+    ensures { ReadsWords (map string_bytes words.now) result }
 {
     match words {
-        [first, file, goal] => run_of(first.as_str(), file.as_str(), goal.as_str()),
-        [first, file] => show_of(first.as_str(), file.as_str()),
-        _ => None,
+        [first, file, goal] => read_run(alloc, first.as_str(), file.as_str(), goal.as_str()),
+        [first, file] => read_show(alloc, first.as_str(), file.as_str()),
+        _ => Err(WordFault::Usage),
     }
 }
 
-/// The reading of three words.
-fn run_of<'a>(first: &str, file: &'a str, goal: &'a str) -> Option<Request<'a>>
-    ensures { MatchOption result (HasNoReading (first.now ∷ file.now ∷ goal.now ∷ []))
-        (λ r. IsReading (first.now ∷ file.now ∷ goal.now ∷ []) (request_of r)) }
+/// What three words ask for.
+fn read_run(alloc: Global, first: &str, file: &str, goal: &str) -> Result<Order, WordFault>
+    ensures { ReadsWords (first.now ∷ file.now ∷ goal.now ∷ []) result }
 {
     if first == "run" && is_word(file) && is_word(goal) {
-        Some(Request::Run { file, goal })
+        Ok(Order::Run {
+            file: Text::make(alloc, file)?,
+            goal: Text::make(alloc, goal)?,
+        })
     } else {
-        None
+        Err(WordFault::Usage)
     }
 }
 
-/// The reading of two words.
-fn show_of<'a>(first: &str, file: &'a str) -> Option<Request<'a>>
-    ensures { MatchOption result (HasNoReading (first.now ∷ file.now ∷ []))
-        (λ r. IsReading (first.now ∷ file.now ∷ []) (request_of r)) }
+/// What two words ask for.
+fn read_show(alloc: Global, first: &str, file: &str) -> Result<Order, WordFault>
+    ensures { ReadsWords (first.now ∷ file.now ∷ []) result }
 {
     if first == "show" && is_word(file) {
-        Some(Request::Show { file })
+        Ok(Order::Show {
+            file: Text::make(alloc, file)?,
+        })
     } else {
-        None
+        Err(WordFault::Usage)
     }
 }
 
@@ -59,17 +98,5 @@ fn is_word(word: &str) -> bool
     match word.as_bytes() {
         [] => false,
         [first, ..] => *first != b'-' && word.len() <= MOST_WORD_BYTES,
-    }
-}
-
-impl Request<'_> {
-    /// The name of the file.
-    pub fn file(&self) -> &str
-        ensures { result.now ≡ file_of (request_of self.now) }
-    {
-        match self {
-            Request::Run { file, goal: _ } => file,
-            Request::Show { file } => file,
-        }
     }
 }

@@ -14,5 +14,5 @@ returns-in-User-2 c =
     (elim c.if-is_true.branch [
       | then-is_true+else-len-eq0 w ↦
           and_right is_true is_alone (ne_eqb (length c.in-User.args) 0 (λ e. w.if-len-eq0.false (w.len.ensures ∙ e)))
-      | else-is_true w ↦ and_left is_true is_alone (sym w.is_true.ensures ∙ w.if-is_true.false)
+      | else-is_true w ↦ and_left is_true is_alone (sym c.is_true.ensures ∙ w.if-is_true.false)
     ])

@@ -1,9 +1,15 @@
-use Rattle.std.proofs.Common.{subst}
-use Rattle.logix_app.specs.Parts.{LoadsGoalText}
-use Rattle.logix_app.proofs.Loaded.{refused-goal}
+use Rattle.std.proofs.Common.{sym, subst}
+use Rattle.logix_app.specs.Loading.{AreLoaded}
+use Rattle.logix_app.proofs.Loaded.{both-loaded, refused-goal}
 use Rattle.logix_app.proofs.loading.answer_goal.Goals as goal
 
+pub returns-in-Ok : goal.returns-in-Ok
+returns-in-Ok c file l =
+    c.answer_loaded.ensures file c.args.goal.now
+    (subst (λ g. AreLoaded file c.args.goal.now c.args.loaded.now g c.load_goal_text.new.names) (sym c.goal-in-Ok.ensures)
+    (both-loaded file c.args.goal.now c.args.loaded.now c.args.names _ c.load_goal_text.new.names l c.in-Ok.ensures.loads))
+
 pub returns : goal.returns
-returns c =
-    refused-goal c.args.loaded.now c.args.names c.args.goal.now c.load_goal_text.new.names c.in-Err.refused c.goal_refusal.result
-    (subst (LoadsGoalText c.args.loaded.now c.args.names c.args.goal.now c.load_goal_text.new.names) c.in-Err.is c.load_goal_text.ensures.loads) c.goal_refusal.ensures
+returns c file l =
+    refused-goal file c.args.goal.now c.args.loaded.now c.args.names c.load_goal_text.new.names c.in-Err.refused c.goal_refusal.result
+    l c.in-Err.ensures.loads c.goal_refusal.ensures
