@@ -82,7 +82,8 @@ guard_source : (is : List Item) → Each IsSourceTest (filter_map (λ i. test_of
 guard_source [] = tt
 guard_source (i ∷ is) = by (test_of i.call) (test_source i.call) (guard_source is)
   where
-    by : (o : Option (Test ℕ)) → OnTest o → Each IsSourceTest (filter_map (λ i. test_of i.call) is) → Each IsSourceTest (cons_option o (filter_map (λ i. test_of i.call) is))
+    by : (o : Option (Test ℕ)) → OnTest o → Each IsSourceTest (filter_map (λ i. test_of i.call) is)
+        → Each IsSourceTest (cons_option o (filter_map (λ i. test_of i.call) is))
     by None h k = k
     by (Some t) h k = (h, k)
 
@@ -98,7 +99,11 @@ module _ (hs : List ProcedureName) (few : length hs < TRUE_PROCEDURE) where
   user_source : (name : Sym) (n : ℕ) (ts : List (Term ℕ)) → Each IsSourceTerm ts → IsSourceGoal (user_goal hs name n ts)
   user_source name zero ts h = by name.0
     where
-      by : (k : ℕ) → IsSourceGoal (elim k [ zero ↦ true' | suc j ↦ user (position_or_len (same_procedure (record { name = name; arity = 0 })) hs) ts ])
+      by : (k : ℕ) → IsSourceGoal (elim k [
+        | zero ↦ true'
+        | suc j ↦ user
+            (position_or_len (same_procedure (record { name = name; arity = 0 })) hs) ts
+      ])
       by zero = tt
       by (suc j) = (omega (arith, few, position_below (same_procedure (record { name = name; arity = 0 })) hs), h)
   user_source name (suc n) ts h = (omega (arith, few, position_below (same_procedure (record { name = name; arity = suc n })) hs), h)
@@ -115,18 +120,24 @@ module _ (hs : List ProcedureName) (few : length hs < TRUE_PROCEDURE) where
   body_source [] = tt
   body_source (i ∷ is) = (goal_source i.call, body_source is)
 
-  clause_source : (h : ProcedureName) (c : read.Clause) → same_procedure h (procedure_name c) ≡ true → IsSourceClause h.arity (clause_of hs c)
+  clause_source : (h : ProcedureName) (c : read.Clause) → same_procedure h (procedure_name c) ≡ true
+      → IsSourceClause h.arity (clause_of hs c)
   clause_source h c e = record {
     guard = guard_source c.guard;
     body = body_source c.body;
-    arguments = length-map c.args term_of ∙ sym (eqb-true h.arity (length c.args) (and_parts (nat_eq h.name.0 c.head.0) (nat_eq h.arity (length c.args)) e).1);
+    arguments =
+        length-map c.args term_of ∙ sym
+        (eqb-true h.arity (length c.args) (and_parts (nat_eq h.name.0 c.head.0) (nat_eq h.arity (length c.args)) e).1);
   }
 
   clauses_source : (h : ProcedureName) (cs : List read.Clause) → Each (IsSourceClause h.arity) (clauses_called hs h cs)
   clauses_source h [] = tt
   clauses_source h (c ∷ cs) = by (same_procedure h (procedure_name c)) refl (clauses_source h cs)
     where
-      by : (b : Bool) → same_procedure h (procedure_name c) ≡ b → Each (IsSourceClause h.arity) (clauses_called hs h cs) → Each (IsSourceClause h.arity) (map (clause_of hs) (cond b (c ∷ filter (λ x. same_procedure h (procedure_name x)) cs) (filter (λ x. same_procedure h (procedure_name x)) cs)))
+      by : (b : Bool) → same_procedure h (procedure_name c) ≡ b → Each (IsSourceClause h.arity) (clauses_called hs h cs)
+          → Each (IsSourceClause h.arity)
+          (map (clause_of hs) (cond b (c ∷ filter (λ x. same_procedure h (procedure_name x)) cs)
+          (filter (λ x. same_procedure h (procedure_name x)) cs)))
       by true e k = (clause_source h c e, k)
       by false e k = k
 
@@ -135,5 +146,7 @@ module _ (hs : List ProcedureName) (few : length hs < TRUE_PROCEDURE) where
   procedures_source cs (g ∷ gs) = (clauses_source g cs, procedures_source cs gs)
 
 -- the code of a module means what its clauses decide
-pub module_means : (m : Module) → length (procedure_names m.clauses) < TRUE_PROCEDURE → length (procedures_code 0 (program_of m)) ≤ nowhere → MeansSource (program_of m) (code_of (program_of m))
-module_means m few long = means_source (program_of m) (procedures_source (procedure_names m.clauses) few m.clauses (procedure_names m.clauses)) long
+pub module_means : (m : Module) → length (procedure_names m.clauses) < TRUE_PROCEDURE → length (procedures_code 0 (program_of m)) ≤ nowhere
+    → MeansSource (program_of m) (code_of (program_of m))
+module_means m few long =
+    means_source (program_of m) (procedures_source (procedure_names m.clauses) few m.clauses (procedure_names m.clauses)) long

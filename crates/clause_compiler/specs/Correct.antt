@@ -2,10 +2,12 @@
 use Rattle.std.specs.Prelude.{◌≡◌, ℕ, List, [], map, Option, Some, None}
 use Rattle.fcp_model.specs.Places.{Variable, own}
 use Rattle.fcp_model.specs.Terms.{Bindings}
-use Rattle.fcp_model.specs.Programs.{Goal, user, true', unifies, assigns, rename_goal, Clause, Program}
+use Rattle.fcp_model.specs.Programs.{Goal, user, true', unifies, assigns, rename_goal, Clause, Procedure, Program}
 use Rattle.fcp_model.specs.Decisions.{Decision, commits, decides_fail, waits_on, Decides}
 use Rattle.fcp_model.specs.Cells.{clause_used}
-use Rattle.clause_compiler.specs.Machine.{Meaning, Compiled, Means}
+use Rattle.clause_compiler.specs.declared.sizes.ClauseSize.{ClauseSize}
+use Rattle.clause_compiler.specs.ClauseCode.{clause_size}
+use Rattle.clause_compiler.specs.Machine.{Meaning, Entrance, Compiled, Means}
 
 -- the body of the clause by which a goal commits, over the clause's own variables
 abbrev pub body_used : Option Clause → List (Goal Variable)
@@ -25,5 +27,18 @@ decision_of m g d = record { decision = d; children = children_by m g d }
 -- over every map of bindings, each call means exactly what is decided for it: the clause, its bindings in order, its children,
 -- and what the tries read
 pub record MeansSource (m : Program) (code : Compiled) : Type 0 where
-  pub only : (s : Bindings) (g : Goal Variable) (d : Meaning) → Means code s g d → (e : Decision) × Decides m s g e × (d ≡ decision_of m g e)
+  pub only : (s : Bindings) (g : Goal Variable) (d : Meaning) → Means code s g d
+      → (e : Decision) × Decides m s g e × (d ≡ decision_of m g e)
   pub all : (s : Bindings) (g : Goal Variable) (e : Decision) → Decides m s g e → Means code s g (decision_of m g e)
+
+-- what is known of a procedure: its name, its number of arguments, and the sizes of its clauses; in code, and in the source
+abbrev pub facts_in_code : Entrance → ℕ × ℕ × List ClauseSize
+facts_in_code e = (e.name, e.arity, e.clauses)
+
+abbrev pub facts_in_source : Procedure → ℕ × ℕ × List ClauseSize
+facts_in_source d = (d.name, d.arity, map clause_size d.clauses)
+
+-- each procedure by number has the source's name and number of arguments, and of each of its clauses the number of variables
+-- and the cells of a commit by it
+abbrev pub NamesSource : Program → Compiled → Type 0
+NamesSource m code = map facts_in_code code.procedures ≡ map facts_in_source m

@@ -15,4 +15,6 @@ code_means_source = (m : Program) → IsSourceProgram m → length (procedures_c
 
 -- the same for the program of a module
 abbrev pub module_means_source : Type 0
-module_means_source = (m : Module) → length (procedure_names m.clauses) < TRUE_PROCEDURE → length (procedures_code 0 (program_of m)) ≤ nowhere → MeansSource (program_of m) (code_of (program_of m))
+module_means_source =
+    (m : Module) → length (procedure_names m.clauses) < TRUE_PROCEDURE → length (procedures_code 0 (program_of m)) ≤ nowhere
+    → MeansSource (program_of m) (code_of (program_of m))

@@ -3,7 +3,7 @@ ghost use Rattle.std.specs.Prelude.{◌≡◌, ◌+◌, ◌&&◌, nat_eq, [], �
 ghost use Rattle.std.specs.List.{position_or_len};
 ghost use Rattle.clause_compiler.specs.Instructions.{Spawn};
 ghost use Rattle.fcp_model.specs.ProcedureNames.{procedure_names, same_procedure};
-ghost use Rattle.fcp_model.specs.Translation.{head_called, term_of, user_goal, goal_of, goals_of};
+ghost use Rattle.fcp_model.specs.Translation.{head_called, term_of, goal_of, goals_of};
 ghost use Rattle.clause_compiler.specs.Reading.{Emits};
 ghost use Rattle.clause_compiler.specs.ClauseCode as spec;
 
@@ -25,7 +25,7 @@ fn user(
     args: &[Term],
     base: u32,
 ) -> Result<(), NoMemory>
-    ensures { OnOk result (Emits code.old code.new (spec.goal_code base (user_goal (procedure_names loaded.now.clauses) name (length args.now) (map term_of args.now)))) }
+    ensures { OnOk result (Emits code.old code.new (spec.called_code base loaded.now name args.now)) }
 {
     let Ok(count) = u8::try_from(args.len()) else {
         return Err(NoMemory);

@@ -1,9 +1,7 @@
 //! Code for a clause.
-ghost use Rattle.std.specs.Prelude.{length, OnOk};
-ghost use Rattle.fcp_model.specs.ProcedureNames.{procedure_names};
-ghost use Rattle.fcp_model.specs.Translation.{clause_of};
-ghost use Rattle.clause_compiler.specs.ClauseCode.{clause_code};
-ghost use Rattle.clause_compiler.specs.Reading.{Emits};
+ghost use Rattle.std.specs.Prelude.{OnOk};
+ghost use Rattle.clause_compiler.specs.ClauseCode.{clause_code, clause_in};
+ghost use Rattle.clause_compiler.specs.Reading.{Emits, after};
 
 use crate::Instr;
 use crate::arguments::head;
@@ -14,7 +12,7 @@ use fcp_model::{Clause, Loaded, NoMemory};
 use std::alloc::Global;
 
 /// The code of a procedure's clause of a number: its head, its guard and its body, with the goal's arguments in the first
-/// slots. A try that does not succeed goes on behind it.
+/// slots. A try that does not succeed goes on after it.
 pub fn clause_code(
     alloc: Global,
     code: &mut Emitter,
@@ -22,7 +20,7 @@ pub fn clause_code(
     clause: &Clause,
     number: u32,
 ) -> Result<(), NoMemory>
-    ensures { OnOk result (Emits code.old code.new (clause_code (length code.old.instrs.items) number (clause_of (procedure_names loaded.now.clauses) clause.now))) }
+    ensures { OnOk result (Emits code.old code.new (clause_code (after code.old) number (clause_in loaded.now clause.now))) }
 {
     let Ok(base) = u32::try_from(clause.args.len()) else {
         return Err(NoMemory);
@@ -37,6 +35,12 @@ pub fn clause_code(
     body(alloc, code, loaded, clause.body.as_slice(), base)?;
     code.emit(Instr::Commit)?;
     let next = code.position()?;
-    code.set_next(start, number, next);
+    code.patch(
+        start,
+        Instr::Try {
+            clause: number,
+            next,
+        },
+    );
     Ok(())
 }

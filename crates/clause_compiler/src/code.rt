@@ -1,80 +1,135 @@
 //! The code of a module.
-ghost use Rattle.std.specs.Prelude.{◌≡◌, IfOk, option_map, slice_get};
+ghost use Rattle.std.specs.Prelude.{◌≡◌, IfOk, option_map, map, slice_get};
 ghost use Rattle.std.specs.Option.{option_copied};
 ghost use Rattle.fcp_model.specs.Translation.{program_of};
-ghost use Rattle.clause_compiler.specs.Compiling.{compiled};
-ghost use Rattle.clause_compiler.specs.Correct.{MeansSource};
-ghost use Rattle.clause_compiler.specs.Targets.{AllLeadBehind};
+ghost use Rattle.clause_compiler.specs.Compiling.{compiled, name_said, name_kept, clause_at};
+ghost use Rattle.clause_compiler.specs.Correct.{MeansSource, NamesSource};
 
 use crate::Instr;
 use crate::emitter::Emitter;
+use crate::named_slots::slots_named;
 use crate::procedures::procedure_code;
-use fcp_model::{Loaded, NoMemory, Sym, TRUE_PROCEDURE};
+use crate::sizes::{ClauseSize, clause_sizes};
+use fcp_model::{Loaded, NoMemory, ProcedureName, Sym, TRUE_PROCEDURE};
 use heap_words::ExprStep;
+use indexmap::IndexSet;
 use std::alloc::Global;
+use std::marker::Model;
 
-/// Where a procedure's code begins, with its name and number of arguments.
-#[derive(Clone, Copy, Debug, PartialEq, Eq)]
-pub struct Entrance {
-    pub name: Sym,
-    pub arity: u32,
+/// A procedure in code: where its first instruction stands, and what is known of its clauses.
+#[derive(Drop)]
+pub struct Procedure {
+    pub name: ProcedureName,
     pub first: u32,
+    pub clauses: Vec<ClauseSize>,
 }
 
-/// The code of a module: its instructions, the steps and constants that they name, and its procedures by number.
+/// The code of a module: its instructions, the steps and Smalls that they name, and its procedures by number.
 #[derive(Drop)]
 pub struct Code {
     instrs: Vec<Instr>,
     steps: Vec<ExprStep>,
-    smalls: Vec<u64>,
-    procedures: Vec<Entrance>,
+    smalls: IndexSet<u64>,
+    procedures: Vec<Procedure>,
+    slots: u32,
+}
+
+impl Model for Code {
+    ghost use Rattle.clause_compiler.specs.Compiling.{Tables, tables};
+    ghost use Rattle.clause_compiler.specs.Sound.{IsSound};
+
+    ghost Value = { Tables };
+
+    ghost view = { λ c. tables c.instrs.items c.steps.items c.smalls.keys c.procedures.items c.slots };
+
+    ghost invariant = { λ c. IsSound (tables c.instrs.items c.steps.items c.smalls.keys c.procedures.items c.slots) };
 }
 
 impl Code {
     /// The instruction at a position from 0.
     pub fn instr(&self, at: u32) -> Option<&Instr>
-        ensures { option_copied result ≡ slice_get self.now.instrs.items at }
+        ensures { option_copied result ≡ slice_get self.now.instrs at }
     {
         self.instrs.get(at as usize)
     }
 
     /// The position of a procedure's first instruction.
     pub fn first(&self, procedure: u32) -> Option<u32>
-        ensures { result ≡ option_map (λ e. e.first) (slice_get self.now.procedures.items procedure) }
+        ensures { result ≡ option_map (λ e. e.first) (slice_get self.now.procedures procedure) }
     {
         self.procedures
             .get(procedure as usize)
-            .map(|entrance| entrance.first)
+            .map(|found| found.first)
     }
 
     /// A procedure's name and number of arguments.
     pub fn name(&self, procedure: u32) -> Option<(Sym, u32)>
-        ensures { result ≡ option_map (λ e. (e.name, e.arity)) (slice_get self.now.procedures.items procedure) }
+        ensures { option_map name_said result ≡ option_map name_kept (slice_get self.now.procedures procedure) }
     {
         self.procedures
             .get(procedure as usize)
-            .map(|entrance| (entrance.name, entrance.arity))
+            .map(|found| (found.name.name, found.name.arity))
     }
 
     /// The step at a position of the table from 0.
     pub fn step(&self, at: u32) -> Option<ExprStep>
-        ensures { result ≡ slice_get self.now.steps.items at }
+        ensures { result ≡ slice_get self.now.steps at }
     {
         self.steps.get(at as usize).copied()
     }
 
     /// The Small of a number from 0.
     pub fn small(&self, at: u32) -> Option<u64>
-        ensures { result ≡ slice_get self.now.smalls.items at }
+        ensures { result ≡ slice_get self.now.smalls at }
     {
-        self.smalls.get(at as usize).copied()
+        self.smalls.get_index(at as usize).copied()
+    }
+
+    /// The cells of a commit by a procedure's clause of a number from 1.
+    pub fn cells(&self, procedure: u32, clause: u32) -> Option<u32>
+        ensures { result ≡ option_map (λ c. c.cells) (clause_at self.now.procedures procedure clause) }
+    {
+        self.clause(procedure, clause).map(|found| found.cells)
+    }
+
+    /// The number of variables of a procedure's clause of a number from 1.
+    pub fn vars(&self, procedure: u32, clause: u32) -> Option<u8>
+        ensures { result ≡ option_map (λ c. c.vars) (clause_at self.now.procedures procedure clause) }
+    {
+        self.clause(procedure, clause).map(|found| found.vars)
+    }
+
+    /// What is known of a procedure's clause of a number from 1.
+    fn clause(&self, procedure: u32, clause: u32) -> Option<ClauseSize>
+        ensures { result ≡ clause_at self.now.procedures procedure clause }
+    {
+        let found = self.procedures.get(procedure as usize)?;
+        if clause == 0 {
+            return None;
+        }
+        found.clauses.get(clause as usize - 1).copied()
+    }
+
+    /// The instructions.
+    pub(crate) fn instrs(&self) -> &[Instr]
+        ensures { result.now ≡ self.now.instrs }
+    {
+        self.instrs.as_slice()
+    }
+
+    /// A number above that of each slot that the code names.
+    pub fn slots(&self) -> u32
+        ensures { result ≡ self.now.slots }
+    {
+        self.slots
     }
 }
 
-/// Compiles a module. What the code gives for a call, over each map of bindings, is what the clauses decide.
-/// Each position that an instruction names lies behind its own.
+/// Compiles a module. What the code gives for a call, over each map of bindings, is what the source clauses decide.
+/// There is no memory for code of 2^32 instructions or slots.
 pub fn compile(alloc: Global, loaded: &Loaded) -> Result<Code, NoMemory>
-    ensures { IfOk result (λ code. MeansSource (program_of loaded.now) (compiled code) × AllLeadBehind 0 (compiled code).ops) }
+    ensures means { IfOk result (λ code. MeansSource (program_of loaded.now) (compiled code)) }
+    ensures names { IfOk result (λ code. NamesSource (program_of loaded.now) (compiled code)) }
 {
     if loaded.procedures() >= TRUE_PROCEDURE {
         return Err(NoMemory);
@@ -82,18 +137,18 @@ pub fn compile(alloc: Global, loaded: &Loaded) -> Result<Code, NoMemory>
     let mut code = Emitter::new(alloc);
     let mut procedures = Vec::new(alloc);
     for number in 0..loaded.procedures() {
-        let name = loaded.name(number);
-        let first = code.position()?;
-        let Ok(()) = procedures.push(Entrance {
-            name: name.name,
-            arity: name.arity,
-            first,
-        }) else {
+        let procedure = Procedure {
+            name: loaded.name(number),
+            first: code.position()?,
+            clauses: clause_sizes(alloc, loaded, number)?,
+        };
+        let Ok(()) = procedures.push(procedure) else {
             return Err(NoMemory);
         };
         procedure_code(alloc, &mut code, loaded, number)?;
     }
     code.position()?;
+    let slots = slots_named(code.instrs.as_slice(), code.steps.as_slice())?;
     let Emitter {
         instrs,
         steps,
@@ -104,5 +159,6 @@ pub fn compile(alloc: Global, loaded: &Loaded) -> Result<Code, NoMemory>
         steps,
         smalls,
         procedures,
+        slots,
     })
 }

@@ -2,8 +2,8 @@
 ghost use Rattle.std.specs.Prelude.{length, ◌<◌, OnOk};
 ghost use Rattle.fcp_model.specs.ProcedureNames.{procedure_names};
 ghost use Rattle.fcp_model.specs.Translation.{program_of};
-ghost use Rattle.clause_compiler.specs.ClauseCode.{clauses_code, procedure_clauses};
-ghost use Rattle.clause_compiler.specs.Reading.{Emits};
+ghost use Rattle.clause_compiler.specs.ClauseCode.{clauses_code, clauses_in};
+ghost use Rattle.clause_compiler.specs.Reading.{Emits, after};
 
 use crate::Instr;
 use crate::clauses::clause_code;
@@ -22,7 +22,7 @@ pub fn procedure_code(
     procedure: u32,
 ) -> Result<(), NoMemory>
     requires { procedure < length (procedure_names loaded.now.clauses) }
-    ensures { OnOk result (Emits code.old code.new (clauses_code (length code.old.instrs.items) 1 (procedure_clauses (program_of loaded.now) procedure))) }
+    ensures { OnOk result (Emits code.old code.new (clauses_code (after code.old) 1 (clauses_in (program_of loaded.now) procedure))) }
 {
     let clauses = loaded.module().clauses.as_slice();
     let places = loaded.clauses(procedure);

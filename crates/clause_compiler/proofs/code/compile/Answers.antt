@@ -1,11 +1,44 @@
-use Rattle.std.proofs.Common.{rules, refl}
-use Rattle.clause_compiler.proofs.CompileLoops.{procedures_next, all_compiled}
+use Rattle.std.proofs.Common.{rules, subst}
+use Rattle.clause_compiler.specs.Sources.{Each}
+use Rattle.clause_compiler.specs.Sound.{NamesBelow, StepsBelow}
+use Rattle.clause_compiler.proofs.CompileLoops.{procedures_next, all_means, all_names, all_sound}
 use Rattle.clause_compiler.proofs.code.compile.Goals as goal
 
 pub loop-number-preserved : goal.loop-number-preserved
 loop-number-preserved c =
-    procedures_next c.args.loaded.now _ _ _ _ _ _ _ c.name-name.result c.name-name.ensures refl refl c.in_ok-first.ensures c.in-Ok.ensures.items c.in_ok-procedure_code.ensures c.loop-number.invariant
+    procedures_next c.args.loaded.now _ _ _ _ _ _ _ c.name.ensures c.in_ok-position.ensures c.in_ok-clause_sizes.ensures
+    c.in-Ok.ensures.items c.in_ok-procedure_code.ensures c.loop-number.invariant
 
-pub returns : goal.returns
-returns c =
-    all_compiled c.args.loaded.now c.new-code.result c.loop-number.code c.loop-number.procedures.items c.loop-number.number (record { instrs = c.loop-number.code.instrs; steps = c.loop-number.code.steps; smalls = c.loop-number.code.smalls; procedures = c.loop-number.procedures }) (search (rules, c.procedures.ensures)) (search (rules, c.procedures-number-end.ensures)) c.new-code.ensures.fine c.new-code.ensures.ops (search (rules, c.in_ok-position.ensures)) refl refl refl refl c.loop-number.invariant
+pub invariant_of-result : goal.invariant_of-result
+invariant_of-result c =
+    all_sound c.args.loaded.now c.new-code.result c.loop-number.code c.loop-number.procedures.items c.loop-number.number (record {
+      few = search rules;
+      all = search rules;
+      fine = c.new-code.ensures.fine;
+      none = c.new-code.ensures.ops;
+      long = search rules;
+      left = c.loop-number.invariant;
+    }) _ (subst (Each (NamesBelow _)) c.as_slice.ensures.value c.in_ok-slots.ensures.instrs)
+    (subst (Each (StepsBelow _)) c.as_slice-2.ensures.value c.in_ok-slots.ensures.steps)
+
+pub returns-clause-means : goal.returns-clause-means
+returns-clause-means c =
+    all_means c.args.loaded.now c.new-code.result c.loop-number.code c.loop-number.procedures.items c.loop-number.number (record {
+      few = search rules;
+      all = search rules;
+      fine = c.new-code.ensures.fine;
+      none = c.new-code.ensures.ops;
+      long = search rules;
+      left = c.loop-number.invariant;
+    }) 0
+
+pub returns-clause-names : goal.returns-clause-names
+returns-clause-names c =
+    all_names c.args.loaded.now c.new-code.result c.loop-number.code c.loop-number.procedures.items c.loop-number.number (record {
+      few = search rules;
+      all = search rules;
+      fine = c.new-code.ensures.fine;
+      none = c.new-code.ensures.ops;
+      long = search rules;
+      left = c.loop-number.invariant;
+    }) 0
