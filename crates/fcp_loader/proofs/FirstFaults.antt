@@ -10,7 +10,7 @@ use Rattle.fcp_loader.specs.Firsts.{comes_before, is_before, earlier, first_of, 
 
 -- ---- the order of faults
 
-abbrev Comes : ℕ → ℕ → ℕ → ℕ → Type 0
+abbrev pub Comes : ℕ → ℕ → ℕ → ℕ → Type 0
 Comes m x n y = (m < n) ⊎ ((m ≡ n) × (x < y))
 
 comes-true : (m x n y : ℕ) → comes_before m x n y ≡ true → Comes m x n y
@@ -19,7 +19,7 @@ comes-true m x n y h = elim (or_cases (nat_lt m n) (nat_eq m n && nat_lt x y) h)
   | inr b ↦ let p = and_parts (nat_eq m n) (nat_lt x y) b in inr (eqb-true m n p.0, ltb-true x y p.1)
 ]
 
-comes-from : (m x n y : ℕ) → Comes m x n y → comes_before m x n y ≡ true
+pub comes-from : (m x n y : ℕ) → Comes m x n y → comes_before m x n y ≡ true
 comes-from m x n y (inl a) = or_left (nat_lt m n) (nat_eq m n && nat_lt x y) (lt-ltb m n a)
 comes-from m x n y (inr b) = or_right (nat_lt m n) (nat_eq m n && nat_lt x y)
     (and_from (nat_eq m n) (nat_lt x y) (eq-eqb m n b.0) (lt-ltb x y b.1))
@@ -124,7 +124,7 @@ first-of-more : (g f : Fault) (fs : List Fault) (o : Option Fault) → first_of 
 first-of-more g f fs None n w rest =
     let k : g ≡ f = cc in
     subst (IsFirst (g ∷ fs)) k (record {
-      one = (0, refl);
+      one = (0, omega arith, refl);
       least = All-cons (λ x. is_before x g ≡ false) g fs (never-itself g)
           (subst (λ (xs : List Fault). All (λ x. is_before x g ≡ false) xs) (sym (none-empty fs n)) (All-nil (λ x. is_before x g ≡ false)));
     })
@@ -137,13 +137,15 @@ first-of-more g f fs (Some h) n w rest = by (is_before h g) refl w
     by true b w =
         let k : h ≡ f = cc in
         subst (IsFirst (g ∷ fs)) k (record {
-          one = (suc r.one.0, r.one.1);
+          one = (suc r.one.0, omega (arith, r.one.1), r.one.2);
           least = All-cons (λ x. is_before x h ≡ false) g fs (not-back h g b) r.least;
         })
     by false b w =
         let k : g ≡ f = cc in
-        subst (IsFirst (g ∷ fs)) k
-        (record { one = (0, refl); least = All-cons (λ x. is_before x g ≡ false) g fs (never-itself g) (not-before g h fs b r.least) })
+        subst (IsFirst (g ∷ fs)) k (record {
+          one = (0, omega arith, refl);
+          least = All-cons (λ x. is_before x g ≡ false) g fs (never-itself g) (not-before g h fs b r.least);
+        })
 
 pub is-first : (fs : List Fault) (f : Fault) → first_of fs ≡ Some f → IsFirst fs f
 is-first [] f e = cc

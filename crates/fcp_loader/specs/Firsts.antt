@@ -1,5 +1,5 @@
 -- Which of some faults is the first: by the number of its code, and then by its place.
-use Rattle.std.specs.Prelude.{◌≡◌, ℕ, Bool, false, ◌&&◌, ◌||◌, nat_lt, nat_eq, List, [], All, slice_get, Option, Some, None, if◌then◌else◌, fold}
+use Rattle.std.specs.Prelude.{◌≡◌, ◌↔◌, ℕ, Bool, false, ◌&&◌, ◌||◌, nat_lt, nat_eq, List, [], All, Contains, Option, Some, None, if◌then◌else◌, fold}
 use Rattle.fcp_model.specs.declared.fault.Fault.{Fault}
 use Rattle.fcp_model.specs.Codes.{code_number}
 
@@ -23,10 +23,16 @@ first_of faults = fold (λ first fault. earlier first (Some fault)) None faults
 
 -- the fault is one of them, and none of them comes before it
 pub record IsFirst (faults : List Fault) (f : Fault) : Type 0 where
-  pub one : (k : ℕ) × (slice_get faults k ≡ Some f)
+  pub one : Contains faults f
   pub least : All (λ g. is_before g f ≡ false) faults
 
--- what `first_of` answers is the first, and it answers nothing only where there is no fault
+-- the two lists have the same faults, in whatever order and however often
+abbrev pub HaveSameFaults : List Fault → List Fault → Type 0
+HaveSameFaults faults others = (f : Fault) → Contains faults f ↔ Contains others f
+
+-- what `first_of` answers is the one first fault; it answers nothing only where there is no fault; the order of the list says nothing
 pub record FirstIsLeast : Type 0 where
   pub some : (faults : List Fault) (f : Fault) → first_of faults ≡ Some f → IsFirst faults f
   pub none : (faults : List Fault) → first_of faults ≡ None → faults ≡ []
+  pub only : (faults : List Fault) (f : Fault) → IsFirst faults f → first_of faults ≡ Some f
+  pub same : (faults others : List Fault) → HaveSameFaults faults others → first_of faults ≡ first_of others
