@@ -11,3 +11,4 @@ pub mod Walkings
 pub mod Falling
 pub mod Opened
 pub mod Closing
+pub mod Starting

@@ -4,7 +4,11 @@
 mod alike;
 mod look;
 mod occurrence;
+#[cfg(test)]
+mod sheet;
 mod table;
+#[cfg(test)]
+mod tests;
 mod unification;
 
 pub use look::{Look, deref};

@@ -11,8 +11,7 @@ use Rattle.ro_unify.specs.Occurs.{Occurs, hit, miss}
 use Rattle.ro_unify.specs.Occurs as words
 use Rattle.ro_unify.specs.Alike.{alike}
 use Rattle.ro_unify.specs.Table.{moved, older_of}
-use Rattle.ro_unify.specs.Unify.{Does}
-use Rattle.ro_unify.specs.Unify.{Turn, goes, clashes, waits, ordered, look_reads}
+use Rattle.ro_unify.specs.Unify.{Does, Turn, goes, clashes, waits, ordered, look_reads}
 use Rattle.ro_unify.specs.declared.table.Move.TheVariants as move
 use Rattle.ro_unify.specs.declared.look.Look.{Look}
 use Rattle.ro_unify.specs.declared.look.Look.TheVariants as look
@@ -30,7 +29,6 @@ use Rattle.fcp_model.proofs.MoreSteps.{at_least, occurs_more}
 use Rattle.unify_terms.specs.Denotes.{Naming, Denotes, DenotesPairs, Stands, Names, IsPlace, LookIs}
 use Rattle.unify_terms.proofs.OccursInWords.{FoundIs, hits, misses, map_end, or_miss, occurs_so}
 use Rattle.unify_terms.proofs.AlikeInWords.{is_plain, SameAlike, neither, both, alike_so}
-
 use Rattle.unify_terms.proofs.MovesInWords.{does_nothing, does_wait, does_order, does_bind, Checked, was_found, was_absent, does_check}
 use Rattle.unify_terms.proofs.MovesInWords.{Compared, were_alike, were_other, does_solids}
 use Rattle.unify_terms.proofs.BindingsInWords.{plain_same, stands_bound}
