@@ -6,6 +6,8 @@ mod edge;
 #[cfg(test)]
 mod grammar;
 #[cfg(test)]
+mod loader;
+#[cfg(test)]
 mod model;
 #[cfg(test)]
 mod reader;
