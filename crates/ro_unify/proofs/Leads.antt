@@ -25,12 +25,24 @@ pub record StandsFor (o : Option Cell) (a : ℕ) : Type 0 where
 
 pub place_stands : (o : Option Cell) (only still : Bool) (a : ℕ) → leads_on only o ≡ Some (still, a) → StandsFor o a
 place_stands (Some (Ref b)) only still a e =
-    record { cell = Ref b; is = refl; final = refl; refers = λ d r. subst (λ (z : ℕ). (d ≡ z) ⊎ (suc d ≡ z)) (sym (ap second e)) r; reaches = λ d r. r ∙ sym (ap second e) } where
+    record {
+      cell = Ref b;
+      is = refl;
+      final = refl;
+      refers = λ d r. subst (λ (z : ℕ). (d ≡ z) ⊎ (suc d ≡ z)) (sym (ap second e)) r;
+      reaches = λ d r. r ∙ sym (ap second e);
+    } where
       second : Option (Bool × ℕ) → ℕ
       second None = b
       second (Some p) = p.1
 place_stands (Some (RoRef b)) only still a e =
-    record { cell = RoRef b; is = refl; final = refl; refers = λ d r. subst (λ (z : ℕ). (d ≡ z) ⊎ (suc d ≡ z)) (sym (ap second e)) r; reaches = λ d r. r ∙ sym (ap second e) } where
+    record {
+      cell = RoRef b;
+      is = refl;
+      final = refl;
+      refers = λ d r. subst (λ (z : ℕ). (d ≡ z) ⊎ (suc d ≡ z)) (sym (ap second e)) r;
+      reaches = λ d r. r ∙ sym (ap second e);
+    } where
       second : Option (Bool × ℕ) → ℕ
       second None = b
       second (Some p) = p.1

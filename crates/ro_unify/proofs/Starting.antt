@@ -18,7 +18,8 @@ module _ {S : Type 0} {addresses : S → ℕ} {sound : S → Type 0} {knows : S 
   -- it holds nothing, and the two facts of a try are there
   pub starts_holding : (kept binds : WordList) (w : S) → kept ≡ [] → binds ≡ [] → Holds had leads kept binds w
   starts_holding kept binds w e f =
-      subst (λ (ks : WordList). Holds had leads ks binds w) (sym e) (subst (λ (bs : WordList). Holds had leads [] bs w) (sym f) (none_holds w))
+      subst (λ (ks : WordList). Holds had leads ks binds w) (sym e)
+      (subst (λ (bs : WordList). Holds had leads [] bs w) (sym f) (none_holds w))
 
   pub starts_tame : (kept binds : WordList) (w : S) → kept ≡ [] → binds ≡ [] → sound w → Tame binds kept (own w) (addresses w)
   starts_tame kept binds w e f s =

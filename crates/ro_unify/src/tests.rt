@@ -16,14 +16,9 @@ const A: u32 = 2;
 const B: u32 = 4;
 
 const C: u32 = 6;
-/// Places that are bound: to a pair, to `A`, and to `A?`.
-const PAIR: u32 = 258;
 
-const BOUND: u32 = 260;
-
-const BOUND_RO: u32 = 262;
-
-// The words of the tests: 16 times what the cell says, and the tag of its kind. A small number is raised by 2^55.
+// The words of the tests: 16 times what the cell says, and the tag of its kind. A small number is raised by 2^55. `OF_` is a
+// reference and `RO_` a read-only one: to an unbound place, or to one that is bound to a pair, to `A` or to `A?`.
 const NIL: u64 = 6;
 
 const SMALL_1: u64 = 0x800000000000013;

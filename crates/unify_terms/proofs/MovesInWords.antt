@@ -35,7 +35,8 @@ does_wait bs m rs _ _ _ (absent a x rs' o) e = cc
 does_wait bs m rs _ _ _ (same x y qs h) e = cc
 does_wait bs m rs _ _ _ (other x y h) e = cc
 
-pub does_order : (bs : WordList) (m : Memory) (rs rs' : List ℕ) (mv : Move) (t : Turn) (p q : ℕ) → Does bs m rs mv t rs' → mv ≡ move.Order p q
+pub does_order : (bs : WordList) (m : Memory) (rs rs' : List ℕ) (mv : Move) (t : Turn) (p q : ℕ) → Does bs m rs mv t rs'
+    → mv ≡ move.Order p q
     → (t ≡ goes (bs ++ ordered p q (older_of p q (m (p - 1)) (m (q - 1))) ∷ []) []) × (rs' ≡ rs)
 does_order bs m rs _ _ _ p q nothing e = cc
 does_order bs m rs _ _ _ p q wait e = cc
@@ -71,7 +72,8 @@ pub data Checked (bs : WordList) (m : Memory) (rs rs' : List ℕ) (t : Turn) (p 
   was_found : Occurs bs m p (x ∷ []) rs (hit rs') → t ≡ clashes → Checked bs m rs rs' t p x
   was_absent : Occurs bs m p (x ∷ []) rs (miss rs') → t ≡ goes (bs ++ (p, x) ∷ []) [] → Checked bs m rs rs' t p x
 
-pub does_check : (bs : WordList) (m : Memory) (rs rs' : List ℕ) (mv : Move) (t : Turn) (p x : ℕ) → Does bs m rs mv t rs' → mv ≡ move.Check p x
+pub does_check : (bs : WordList) (m : Memory) (rs rs' : List ℕ) (mv : Move) (t : Turn) (p x : ℕ) → Does bs m rs mv t rs'
+    → mv ≡ move.Check p x
     → Checked bs m rs rs' t p x
 does_check bs m rs _ _ _ p x nothing e = cc
 does_check bs m rs _ _ _ p x wait e = cc

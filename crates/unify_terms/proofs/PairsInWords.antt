@@ -101,8 +101,8 @@ module _ (p : Naming) (m : Memory) (names : Names p m) where
           reads = qs;
           treats = λ n _. g n;
           read = ap (map p.name) e.1 ∙ f;
-          is = subst
-              (λ (z : Turn). TurnIs bs s z (binds v u)) (sym e.0) (bound (bs ++ (a, x) ∷ []) v u (stands_bound p m names bs s a x v u st i h n d));
+          is = subst (λ (z : Turn). TurnIs bs s z (binds v u)) (sym e.0)
+              (bound (bs ++ (a, x) ∷ []) v u (stands_bound p m names bs s a x v u st i h n d));
         }
 
     ref_denotes : (a : ℕ) (v : Variable) → IsPlace p m a v → Denotes p m (var v) (encoded (cell.Ref a))

@@ -17,7 +17,8 @@ unify-requires-clause-leads g c =
     let laws = g.met.W.Words.laws in
     let once = laws.stays_sound _ _ c.requires.sound c.load-left.ensures.later in
     let twice = laws.stays_sound _ _ once c.load-right.ensures.later in
-    let left = laws.stays_leading _ _ _ c.load-right.ensures.later (laws.had_leads _ _ _ once (laws.had_given _ _ _ _ c.load-left.ensures.gave)) in
+    let left = laws.stays_leading _ _ _ c.load-right.ensures.later
+    (laws.had_leads _ _ _ once (laws.had_given _ _ _ _ c.load-left.ensures.gave)) in
     let right = laws.had_leads _ _ _ twice (laws.had_given _ _ _ _ c.load-right.ensures.gave) in
     subst (λ (ps : List (ℕ × ℕ)). Each (Both (g.W.Words.leads c.load-right.new.self)) ps) (sym c.as_slice.ensures) ((left, right), tt)
 
