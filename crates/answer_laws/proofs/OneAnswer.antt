@@ -6,14 +6,13 @@ use Rattle.logix_edge.specs.Causes.{Rose}
 use Rattle.logix_edge.specs.Shelves.{Entries, bytes_of}
 use Rattle.logix_app.specs.declared.status.Status.{Status}
 use Rattle.logix_app.specs.declared.status.Status.TheVariants as status
-use Rattle.logix_app.specs.declared.words.Order.{Order}
 use Rattle.logix_app.specs.Answers.{AnswersOrder}
 use Rattle.logix_app.specs.Headline.{IsAnswered, IsTooLong}
 use Rattle.logix_app.specs.Orders.{file_of}
 use Rattle.logix_app.proofs.KindsOfAnswers.{CallAnswer, any-answer}
 use Rattle.logix_app.proofs.KindsOfAnswers as kinds
 use Rattle.logix_app.proofs.OneReading.{one-order}
-use Rattle.answer_laws.specs.OneAnswers.{IsSoundAnswer, CallsHaveOneAnswer}
+use Rattle.answer_laws.specs.OneAnswers.{CallsHaveOneAnswer}
 use Rattle.answer_laws.proofs.OneOrder.{Same, one-answer}
 
 one-some : (xs ys : Bytes) (o : Option Bytes) → o ≡ Some xs → o ≡ Some ys → xs ≡ ys
@@ -26,14 +25,16 @@ within-above o file e within above =
     omega (arith, long, within)
 
 -- a file that is fetched is not too long
-fetched-too-long : (words : List Bytes) (entries : Entries) (b n c d : ℕ) (s : Status) (x y : Bytes) → IsAnswered words (Some entries) b n s x
+fetched-too-long : (words : List Bytes) (entries : Entries) (b n c d : ℕ) (s : Status) (x y : Bytes)
+    → IsAnswered words (Some entries) b n s x
     → IsTooLong words (Some entries) c d y → ⊥
 fetched-too-long words entries b n c d s x y a t =
     let o : a.order ≡ t.order = one-order words a.order t.order a.reading t.reading in
     within-above (bytes_of entries (file_of a.order)) a.file a.fetched.told a.fetched.within
     (subst (λ p. IsSomeAnd (bytes_of entries (file_of p)) (λ bytes. 1048576 < length bytes)) (sym o) t.above)
 
-module _ (words : List Bytes) (entries : Entries) (b n : ℕ) (last : Option Bytes) (b' n' : ℕ) (last' : Option Bytes) (s s' : Status) (text text' : Bytes) where
+module _ (words : List Bytes) (entries : Entries) (b n : ℕ) (last : Option Bytes) (b' n' : ℕ) (last' : Option Bytes) (s s' : Status)
+    (text text' : Bytes) where
   same-answers : (s ≡ status.NoMemory → ⊥) → (s' ≡ status.NoMemory → ⊥) → IsAnswered words (Some entries) b n s text
       → IsAnswered words (Some entries) b' n' s' text' → Same s s' text text'
   same-answers enough enough' a a' =
@@ -54,9 +55,11 @@ module _ (words : List Bytes) (entries : Entries) (b n : ℕ) (last : Option Byt
   one-call quiet quiet' enough enough' (kinds.usage e a) (kinds.answered a') = absurd (a.none a'.order a'.reading)
   one-call quiet quiet' enough enough' (kinds.too_long e a) (kinds.usage e' a') = absurd (a'.none a.order a.reading)
   one-call quiet quiet' enough enough' (kinds.too_long e a) (kinds.too_long e' a') = (e ∙ sym e', a.line ∙ sym a'.line)
-  one-call quiet quiet' enough enough' (kinds.too_long e a) (kinds.answered a') = absurd (fetched-too-long words entries b' n' b n s' text' text a' a)
+  one-call quiet quiet' enough enough' (kinds.too_long e a) (kinds.answered a') =
+      absurd (fetched-too-long words entries b' n' b n s' text' text a' a)
   one-call quiet quiet' enough enough' (kinds.answered a) (kinds.usage e' a') = absurd (a'.none a.order a.reading)
-  one-call quiet quiet' enough enough' (kinds.answered a) (kinds.too_long e' a') = absurd (fetched-too-long words entries b n b' n' s text text' a a')
+  one-call quiet quiet' enough enough' (kinds.answered a) (kinds.too_long e' a') =
+      absurd (fetched-too-long words entries b n b' n' s text text' a a')
   one-call quiet quiet' enough enough' (kinds.answered a) (kinds.answered a') = same-answers enough enough' a a'
 
 pub calls_have_one_answer : CallsHaveOneAnswer

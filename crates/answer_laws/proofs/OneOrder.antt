@@ -1,5 +1,5 @@
 -- An order is answered in one way over the bytes of its file.
-use Rattle.std.proofs.Common.{◌≡◌, true, false, List, [], ap, sym, ◌∙◌, subst}
+use Rattle.std.proofs.Common.{◌≡◌, true, false, [], ap, sym, ◌∙◌, subst}
 use Rattle.fcp_laws.proofs.OneReport.{one_report}
 use Rattle.fcp_model.specs.declared.fault.Fault.{Fault}
 use Rattle.fcp_model.specs.declared.run.Outcome.{Outcome}
@@ -14,7 +14,7 @@ use Rattle.logix_app.specs.declared.words.Order.{Order}
 use Rattle.logix_app.specs.declared.words.Order.TheVariants.{Run, Show}
 use Rattle.logix_app.specs.Answers.{default_limits, IsRunOf, IsNotInForm, IsShownAs, AnswersOrder}
 use Rattle.logix_app.specs.Lines.{module_line, goal_line}
-use Rattle.logix_app.specs.Loading.{IsLoadedModule, IsFirstFault, IsFirstGoalFault, is_runnable}
+use Rattle.logix_app.specs.Loading.{IsFirstFault, IsFirstGoalFault, is_runnable}
 use Rattle.logix_app.proofs.KindsOfAnswers.{RunAnswer, ShowAnswer, run-answer, show-answer}
 use Rattle.logix_app.proofs.KindsOfAnswers as kinds
 use Rattle.logix_app.proofs.OneLoading.{Texts, one-loaded, no-fault, one-first-fault, one-texts, no-first-goal-fault, one-first-goal-fault}
@@ -22,6 +22,10 @@ use Rattle.logix_app.proofs.OneLoading.{Texts, one-loaded, no-fault, one-first-f
 -- one status and one text
 abbrev pub Same : Status → Status → Bytes → Bytes → Type 0
 Same s s' text text' = (s ≡ s') × (text ≡ text')
+
+-- the report of the one-worker run of a goal over a file, by what they are
+abbrev pub IsReportOver : Texts → Outcome → Bytes → Type 0
+IsReportOver t o text = IsOneWorkerReport (program_of t.m) (start_of t.m t.g) default_limits [] t.names (goal_variables t.g.names) o text
 
 module _ (file : Bytes) (s s' : Status) (text text' : Bytes) where
   same-module-faults : (f g : Fault) → s ≡ status.Module f → s' ≡ status.Module g → text ≡ module_line f → text' ≡ module_line g
@@ -48,13 +52,13 @@ module _ (file : Bytes) (s s' : Status) (text text' : Bytes) where
         let q : f ≡ g = one-first-goal-fault file goal f g i j in
         (e ∙ ap status.Goal q ∙ sym e', l ∙ ap goal_line q ∙ sym l')
 
-    same-runs : (o p : Outcome) → s ≡ status.Ended o → s' ≡ status.Ended p → IsRunOf file goal o text → IsRunOf file goal p text' → Same s s' text text'
+    same-runs : (o p : Outcome) → s ≡ status.Ended o → s' ≡ status.Ended p → IsRunOf file goal o text → IsRunOf file goal p text'
+        → Same s s' text text'
     same-runs o p e e' r r' =
         let same = one-texts file goal r.m r'.m r.g r'.g r.names r'.names r.loaded r'.loaded in
         let one =
         one_report (program_of r'.m) (start_of r'.m r'.g) default_limits [] r'.names (goal_variables r'.g.names) o p text text'
-        (subst (λ (t : Texts). IsOneWorkerReport (program_of t.m) (start_of t.m t.g) default_limits [] t.names (goal_variables t.g.names) o text)
-        same r.by_one_worker) r'.by_one_worker in
+        (subst (λ t. IsReportOver t o text) same r.by_one_worker) r'.by_one_worker in
         (e ∙ ap status.Ended one.0 ∙ sym e', one.1)
 
     -- what is run is of what runs so far

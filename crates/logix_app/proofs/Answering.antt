@@ -1,5 +1,5 @@
 -- What is answered to the words, what is written of that, and that what can be done is done.
-use Rattle.std.proofs.Common.{◌≡◌, ℕ, ◌<◌, ◌≤◌, true, false, List, [], length, Option, Some, Ok, Err, ap, sym, ◌∙◌, subst, refl, arith}
+use Rattle.std.proofs.Common.{◌≡◌, ℕ, ◌<◌, ◌≤◌, true, false, List, [], length, Option, Some, Ok, Err, ap, sym, ◌∙◌, subst, arith}
 use Rattle.std.specs.Prelude.{Result, IfOk, IsSomeAnd}
 use Rattle.logix_edge.specs.declared.sink.Put.TheVariants as put
 use Rattle.logix_edge.specs.Causes.{Rose}
@@ -12,7 +12,7 @@ use Rattle.logix_app.specs.declared.status.Status.{Status}
 use Rattle.logix_app.specs.declared.status.Status.TheVariants as status
 use Rattle.logix_app.specs.declared.words.Order.{Order}
 use Rattle.logix_app.specs.declared.words.Order.TheVariants.{Run, Show}
-use Rattle.logix_app.specs.Answers.{AnswersOrder, CanRun, CanShow, CanDo, IsNotInForm, IsDoneOrNoMemory}
+use Rattle.logix_app.specs.Answers.{AnswersOrder, CanRun, CanShow, CanDo, IsDoneOrNoMemory}
 use Rattle.logix_app.specs.Headline.{Answers, WritesWhole, Writes, HasWork, IsFetched, IsAnswered, Completes}
 use Rattle.logix_app.specs.Loading.{is_runnable}
 use Rattle.logix_app.specs.Orders.{file_of, IsReading}
@@ -75,9 +75,10 @@ module _ (words : List Bytes) (held : Option Entries) (before now : ℕ) (last :
 
 -- ---- what is written
 
-module _ (words : List Bytes) (held : Option Entries) (before now : ℕ) (last : Option Bytes) (old new : Option Bytes) (counted count : ℕ) where
+module _ (words : List Bytes) (held : Option Entries) (before now : ℕ) (last old new : Option Bytes) (counted count : ℕ) where
   -- no status of an answer is that the sink failed
-  whole-text : (s : Status) (text : Bytes) → Answers words held before now last s text → WritesWhole (Answers words held before now last s) old new counted count
+  whole-text : (s : Status) (text : Bytes) → Answers words held before now last s text
+      → WritesWhole (Answers words held before now last s) old new counted count
       → Writes (Answers words held before now last) old new counted count s
   whole-text status.Sink text a w = absurd a
   whole-text (status.Ended o) text a w = w
@@ -97,9 +98,11 @@ module _ (words : List Bytes) (held : Option Entries) (before now : ℕ) (last :
 
 -- ---- what can be done is done
 
-run-is-done : (name goal file : Bytes) (s : Status) (text : Bytes) → CanRun file goal → RunAnswer file goal s text → IsDoneOrNoMemory (Run name goal) s
+run-is-done : (name goal file : Bytes) (s : Status) (text : Bytes) → CanRun file goal → RunAnswer file goal s text
+    → IsDoneOrNoMemory (Run name goal) s
 run-is-done name goal file s text can (kinds.ran o e r) = subst (IsDoneOrNoMemory (Run name goal)) (sym e) tt
-run-is-done name goal file s text can (kinds.module_fault f e line first) = absurd (no-fault file can.m can.loaded.before f can.loaded.loaded first)
+run-is-done name goal file s text can (kinds.module_fault f e line first) =
+    absurd (no-fault file can.m can.loaded.before f can.loaded.loaded first)
 run-is-done name goal file s text can (kinds.goal_fault f e line first) =
     absurd (no-first-goal-fault file goal can.m can.g can.names f can.loaded first)
 run-is-done name goal file s text can (kinds.beyond e line n) =
@@ -112,7 +115,8 @@ show-is-done name file s text can (kinds.shown e r) = subst (IsDoneOrNoMemory (S
 show-is-done name file s text can (kinds.module_fault f e line first) = absurd (no-fault file can.m can.names f can.loaded first)
 
 -- an answer over the file that is there
-order-is-done : (o : Order) (file : Bytes) (s : Status) (text : Bytes) → CanDo o file → AnswersOrder o file s text → (s ≡ status.NoMemory → ⊥)
+order-is-done : (o : Order) (file : Bytes) (s : Status) (text : Bytes) → CanDo o file → AnswersOrder o file s text
+    → (s ≡ status.NoMemory → ⊥)
     → IsDoneOrNoMemory o s
 order-is-done (Run name goal) file s text can a enough = run-is-done name goal file s text can (run-answer file goal s text a enough)
 order-is-done (Show name) file s text can a enough = show-is-done name file s text can (show-answer file s text a enough)
@@ -123,40 +127,48 @@ above-limit o file e a = subst (λ x. IsSomeAnd x (λ bytes. 1048576 < length by
 one-file : (file other : Bytes) (o : Option Bytes) → o ≡ Some file → o ≡ Some other → other ≡ file
 one-file file other o e d = let g : Some other ≡ Some file = sym d ∙ e in cc
 
-module _ (words : List Bytes) (entries : Entries) (before now : ℕ) (last : Option Bytes) (o : Order) (file : Bytes) (reading : IsReading words o) (there : bytes_of entries (file_of o) ≡ Some file) where
-  -- the file of an order that the words ask for
-  there-too : (p : Order) → IsReading words p → bytes_of entries (file_of p) ≡ Some file
-  there-too p r = ap (λ x. bytes_of entries (file_of x)) (one-order words p o r reading) ∙ there
+-- what is answered over the file of an order that the words ask for
+module _ (words : List Bytes) (entries : Entries) (before now : ℕ) (last : Option Bytes) (o : Order) (file : Bytes) where
+  -- each reading of the words names this file
+  there-too : (p : Order) → IsReading words o → IsReading words p → bytes_of entries (file_of o) ≡ Some file
+      → bytes_of entries (file_of p) ≡ Some file
+  there-too p r q there = ap (λ x. bytes_of entries (file_of x)) (one-order words p o q r) ∙ there
 
   -- the answer is over this file
-  over-file : (s : Status) (text : Bytes) → IsAnswered words (Some entries) before now s text → AnswersOrder o file s text
-  over-file s text a =
-      subst (λ x. AnswersOrder x file s text) (one-order words a.order o a.reading reading)
-      (subst (λ x. AnswersOrder a.order x s text) (one-file file a.file (bytes_of entries (file_of a.order)) (there-too a.order a.reading) a.fetched.told)
-      a.answers)
+  over-file : (s : Status) (text : Bytes) → IsReading words o → bytes_of entries (file_of o) ≡ Some file
+      → IsAnswered words (Some entries) before now s text → AnswersOrder o file s text
+  over-file s text r there a =
+      let same : a.file ≡ file =
+      one-file file a.file (bytes_of entries (file_of a.order)) (there-too a.order r a.reading there) a.fetched.told in
+      subst (λ x. AnswersOrder x file s text) (one-order words a.order o a.reading r)
+      (subst (λ x. AnswersOrder a.order x s text) same a.answers)
 
-  is-done : (s : Status) (text : Bytes) → CanDo o file → ¬ Rose before now → (s ≡ status.NoMemory → ⊥)
-      → length file ≤ 1048576 → CallAnswer words (Some entries) before now last s text → IsDoneOrNoMemory o s
-  is-done s text can quiet enough within (kinds.usage e a) = absurd (a.none o reading)
-  is-done s text can quiet enough within (kinds.shelf e a) = absurd (quiet a.rose)
-  is-done s text can quiet enough within (kinds.too_long e a) =
-      let long = above-limit (bytes_of entries (file_of a.order)) file (there-too a.order a.reading) a.above in
+  is-done : (s : Status) (text : Bytes) → IsReading words o → bytes_of entries (file_of o) ≡ Some file → length file ≤ 1048576
+      → CanDo o file → ¬ Rose before now → (s ≡ status.NoMemory → ⊥) → CallAnswer words (Some entries) before now last s text
+      → IsDoneOrNoMemory o s
+  is-done s text r there within can quiet enough (kinds.usage e a) = absurd (a.none o r)
+  is-done s text r there within can quiet enough (kinds.shelf e a) = absurd (quiet a.rose)
+  is-done s text r there within can quiet enough (kinds.too_long e a) =
+      let long = above-limit (bytes_of entries (file_of a.order)) file (there-too a.order r a.reading there) a.above in
       absurd (omega (arith, long, within))
-  is-done s text can quiet enough within (kinds.answered a) = order-is-done o file s text can (over-file s text a) enough
+  is-done s text r there within can quiet enough (kinds.answered a) =
+      order-is-done o file s text can (over-file s text r there a) enough
 
 no-memory-is-done : (o : Order) → IsDoneOrNoMemory o status.NoMemory
 no-memory-is-done (Run name goal) = tt
 no-memory-is-done (Show name) = tt
 
-module _ (words : List Bytes) (held : Option Entries) (before now : ℕ) (last : Option Bytes) (old new : Option Bytes) (counted count : ℕ) where
+module _ (words : List Bytes) (held : Option Entries) (before now : ℕ) (last old new : Option Bytes) (counted count : ℕ) where
   answered : (s : Status) → (s ≡ status.NoMemory → ⊥) → (o : Order) → HasWork words held o → ¬ Rose before now
       → WritesWhole (Answers words held before now last s) old new counted count → IsDoneOrNoMemory o s
   answered s enough o work quiet w =
-      is-done words work.entries before now last o work.file work.reading work.there s w.text work.can quiet enough work.within
-      (any-answer words (Some work.entries) before now last s w.text (subst (λ x. Answers words x before now last s w.text) work.tells w.answers) enough)
+      let answers = subst (λ x. Answers words x before now last s w.text) work.tells w.answers in
+      is-done words work.entries before now last o work.file s w.text work.reading work.there work.within work.can quiet enough
+      (any-answer words (Some work.entries) before now last s w.text answers enough)
 
   -- what was written with a status tells that the work was done, unless a fault was counted or memory ran out
-  pub completes : (s : Status) → Writes (Answers words held before now last) old new counted count s → Completes words held before now counted count s
+  pub completes : (s : Status) → Writes (Answers words held before now last) old new counted count s
+      → Completes words held before now counted count s
   completes status.NoMemory w o work p q = no-memory-is-done o
   completes status.Sink w o work p q = absurd (q w.rose)
   completes (status.Ended x) w o work p q = answered (status.Ended x) (λ e. cc) o work p w

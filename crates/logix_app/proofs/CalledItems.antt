@@ -11,6 +11,7 @@ use Rattle.fcp_model.specs.declared.source.Module.{Module}
 use Rattle.fcp_model.specs.Goals.{is_true}
 use Rattle.plain_engine.specs.CalledItems.{is_called}
 use Rattle.fcp_model.specs.Goals.{number_of_call}
+use Rattle.fcp_model.specs.declared.loaded.ProcedureName.{ProcedureName}
 use Rattle.fcp_model.specs.ProcedureNames.{procedure_names, same_procedure}
 use Rattle.fcp_model.specs.Goals.{true_procedure}
 
@@ -25,7 +26,8 @@ module _ {X : Type 0} (p : X → Bool) where
   place-below [] = refl
   place-below (x ∷ xs) = by (p x) (place-below xs)
     where
-      by : (b : Bool) → nat_lt (position_or_len p xs) (length xs) ≡ list_any p xs → nat_lt (cond (not b) (1 + position_or_len p xs) 0) (suc (length xs)) ≡ (b || list_any p xs)
+      by : (b : Bool) → nat_lt (position_or_len p xs) (length xs) ≡ list_any p xs
+          → nat_lt (cond (not b) (1 + position_or_len p xs) 0) (suc (length xs)) ≡ (b || list_any p xs)
       by true h = lt-ltb 0 (suc (length xs)) (omega arith)
       by false h = nat_lt-suc (position_or_len p xs) (length xs) ∙ h
 
@@ -36,9 +38,14 @@ module _ {X : Type 0} (p : X → Bool) where
   pub is_some-position : (xs : List X) → is_some (position p xs) ≡ list_any p xs
   is_some-position xs = is_some-cond (nat_lt (position_or_len p xs) (length xs)) (position_or_len p xs) ∙ place-below xs
 
-pub is_some-number : (m : Module) (call : Call) (name : Sym) (args : List Term) → call ≡ User name args → is_true name.0 (length args) ≡ false → is_some (number_of_call m call) ≡ is_called (procedure_names m.clauses) call
+pub is_some-number : (m : Module) (call : Call) (name : Sym) (args : List Term) → call ≡ User name args
+    → is_true name.0 (length args) ≡ false → is_some (number_of_call m call) ≡ is_called (procedure_names m.clauses) call
 is_some-number m call name args is free = rw is (by (is_true name.0 (length args)) free)
   where
-    by : (b : Bool) → b ≡ false → is_some (if b then Some true_procedure else position (same_procedure (record { name = name; arity = length args })) (procedure_names m.clauses)) ≡ (not b && list_any (same_procedure (record { name = name; arity = length args })) (procedure_names m.clauses))
+    called : ProcedureName
+    called = record { name = name; arity = length args }
+
+    by : (b : Bool) → b ≡ false → is_some (if b then Some true_procedure else position (same_procedure called) (procedure_names m.clauses))
+        ≡ (not b && list_any (same_procedure called) (procedure_names m.clauses))
     by true e = cc
-    by false e = is_some-position (same_procedure (record { name = name; arity = length args })) (procedure_names m.clauses)
+    by false e = is_some-position (same_procedure called) (procedure_names m.clauses)

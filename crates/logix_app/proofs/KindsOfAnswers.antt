@@ -1,5 +1,5 @@
 -- What an answer is, if memory did not run out: one case for each status that comes.
-use Rattle.std.proofs.Common.{◌≡◌, ℕ, List, [], Option, refl}
+use Rattle.std.proofs.Common.{◌≡◌, ℕ, List, Option, refl}
 use Rattle.fcp_model.specs.declared.fault.Fault.{Fault}
 use Rattle.fcp_model.specs.declared.run.Outcome.{Outcome}
 use Rattle.fcp_model.specs.Spelling.{Bytes}
@@ -49,7 +49,8 @@ show-answer file status.TooLong text a enough = absurd a
 show-answer file status.Sink text a enough = absurd a
 
 -- the words of a call
-pub data CallAnswer (words : List Bytes) (held : Option Entries) (before now : ℕ) (last : Option Bytes) (s : Status) (text : Bytes) : Type 0 where
+pub data CallAnswer (words : List Bytes) (held : Option Entries) (before now : ℕ) (last : Option Bytes) (s : Status)
+    (text : Bytes) : Type 0 where
   usage : s ≡ status.Usage → IsUsage words before now text → CallAnswer words held before now last s text
   shelf : s ≡ status.Shelf → IsShelfFault words before now last text → CallAnswer words held before now last s text
   too_long : s ≡ status.TooLong → IsTooLong words held before now text → CallAnswer words held before now last s text

@@ -33,7 +33,8 @@ use Rattle.logix_app.specs.Loading as loading
 use Rattle.logix_app.specs.Parts.{text_of, LoadsText, IsLoadedGoal, LoadsGoalText, TellsModule, TellsGoal}
 
 -- a module that was read is loaded
-pub loads-text : (before : List Bytes) (file : Bytes) (after : List Bytes) (m : Module) (r : Result Module Refused) → before ≡ reserved_names → ReadsModule before file after (Ok m) → Loads m r → LoadsText file after r
+pub loads-text : (before : List Bytes) (file : Bytes) (after : List Bytes) (m : Module) (r : Result Module Refused)
+    → before ≡ reserved_names → ReadsModule before file after (Ok m) → Loads m r → LoadsText file after r
 loads-text before file after m (Ok l) e read load = record {
   is_module = subst (λ x. IsModule reserved_names file x) (sym load.same) (subst (λ x. IsModule x file m) e read.0);
   faultless = ap faults_of load.same ∙ load.faultless;
@@ -43,12 +44,15 @@ loads-text before file after m (Err (refused.Fault f)) e read load = in_module m
 loads-text before file after m (Err (refused.NoMemory n)) e read load = tt
 
 -- a module that was not read
-pub refuses-text : (before : List Bytes) (file : Bytes) (after : List Bytes) (r : Refused) → before ≡ reserved_names → ReadsModule before file after (Err r) → LoadsText file after (Err r)
-refuses-text before file after (refused.Fault f) e read = loading.in_text (subst (λ x. Rattle.fcp_reader.specs.Sources.IsModuleFault x file f) e read)
+pub refuses-text : (before : List Bytes) (file : Bytes) (after : List Bytes) (r : Refused) → before ≡ reserved_names
+    → ReadsModule before file after (Err r) → LoadsText file after (Err r)
+refuses-text before file after (refused.Fault f) e read =
+    loading.in_text (subst (λ x. Rattle.fcp_reader.specs.Sources.IsModuleFault x file f) e read)
 refuses-text before file after (refused.NoMemory n) e read = tt
 
 -- a goal that was read is loaded
-pub loads-goal : (m : Module) (before : List Bytes) (goal : Bytes) (after : List Bytes) (g : GoalText) (r : Result (GoalText × List ℕ) Refused) → ReadsGoal before goal after (Ok g) → LoadsGoal m g r → LoadsGoalText m before goal after r
+pub loads-goal : (m : Module) (before : List Bytes) (goal : Bytes) (after : List Bytes) (g : GoalText)
+    (r : Result (GoalText × List ℕ) Refused) → ReadsGoal before goal after (Ok g) → LoadsGoal m g r → LoadsGoalText m before goal after r
 loads-goal m before goal after g (Ok l) read load = record {
   is_goal = subst (IsGoal before goal) (sym load.same) read.0;
   faultless = ap (goal_faults_of m) load.same ∙ load.faultless;
@@ -58,7 +62,8 @@ loads-goal m before goal after g (Err (refused.Fault f)) read load = loading.in_
 loads-goal m before goal after g (Err (refused.NoMemory n)) read load = tt
 
 -- a goal that was not read
-pub refuses-goal : (m : Module) (before : List Bytes) (goal : Bytes) (after : List Bytes) (r : Refused) → ReadsGoal before goal after (Err r) → LoadsGoalText m before goal after (Err r)
+pub refuses-goal : (m : Module) (before : List Bytes) (goal : Bytes) (after : List Bytes) (r : Refused)
+    → ReadsGoal before goal after (Err r) → LoadsGoalText m before goal after (Err r)
 refuses-goal m before goal after (refused.Fault f) read = loading.in_text read
 refuses-goal m before goal after (refused.NoMemory n) read = tt
 
@@ -94,14 +99,22 @@ shown file m names l = record {
 }
 
 -- what runs is what the engine takes, where it keeps the limits
+runnable-parts : (m : Module) (g : GoalText) → is_runnable m g ≡ true → (is_simple_module m ≡ true) × (is_simple_goal g ≡ true)
+runnable-parts m g h =
+    let front = is_simple_module m && bodies_called m in
+    let goal = and_parts (front && is_simple_goal g) (goal_called m g) h in
+    let bodies = and_parts front (is_simple_goal g) goal.0 in
+    ((and_parts (is_simple_module m) (bodies_called m) bodies.0).0, bodies.1)
+
 pub plain-module : (m : Module) (g : GoalText) → is_runnable m g ≡ true → is_module_within m ≡ true → length m.clauses ≤ 1048576 → IsPlain m
-plain-module m g h w few = simple_module m (and_parts (is_simple_module m) (bodies_called m) (and_parts (is_simple_module m && bodies_called m) (is_simple_goal g) (and_parts (is_simple_module m && bodies_called m && is_simple_goal g) (goal_called m g) h).0).0).0 w few
+plain-module m g h w few = simple_module m (runnable-parts m g h).0 w few
 
 pub plain-goal : (m : Module) (g : GoalText) → is_runnable m g ≡ true → is_goal_within g ≡ true → IsPlainGoal g
-plain-goal m g h w = simple_goal g (and_parts (is_simple_module m && bodies_called m) (is_simple_goal g) (and_parts (is_simple_module m && bodies_called m && is_simple_goal g) (goal_called m g) h).0).1 w
+plain-goal m g h w = simple_goal g (runnable-parts m g h).1 w
 
 -- what was read and loaded keeps the limits
-pub within-text : (before : List Bytes) (file : Bytes) (after : List Bytes) (m : Module) (r : Result Module Refused) → length file ≤ 1048576 → ReadsModule before file after (Ok m) → Loads m r → IfOk r (λ l. (is_module_within l ≡ true) × (length l.clauses ≤ 1048576))
+pub within-text : (before : List Bytes) (file : Bytes) (after : List Bytes) (m : Module) (r : Result Module Refused) → length file ≤ 1048576
+    → ReadsModule before file after (Ok m) → Loads m r → IfOk r (λ l. (is_module_within l ≡ true) × (length l.clauses ≤ 1048576))
 within-text before file after m (Ok l) short read load =
     let limits = texts_keep_limits_law.0 before file m read.0 in
     let few : length m.clauses ≤ length file = limits.1 in
@@ -109,8 +122,11 @@ within-text before file after m (Ok l) short read load =
     subst (λ (x : Module). (is_module_within x ≡ true) × (length x.clauses ≤ 1048576)) (sym load.same) (limits.0, fewer)
 within-text before file after m (Err e) short read load = tt
 
-pub within-goal : (m : Module) (before : List Bytes) (goal : Bytes) (after : List Bytes) (g : GoalText) (r : Result (GoalText × List ℕ) Refused) → ReadsGoal before goal after (Ok g) → LoadsGoal m g r → IfOk r (λ l. is_goal_within l.0 ≡ true)
-within-goal m before goal after g (Ok l) read load = subst (λ (x : GoalText). is_goal_within x ≡ true) (sym load.same) (texts_keep_limits_law.1 before goal g read.0)
+pub within-goal : (m : Module) (before : List Bytes) (goal : Bytes) (after : List Bytes) (g : GoalText)
+    (r : Result (GoalText × List ℕ) Refused) → ReadsGoal before goal after (Ok g) → LoadsGoal m g r
+    → IfOk r (λ l. is_goal_within l.0 ≡ true)
+within-goal m before goal after g (Ok l) read load =
+    subst (λ (x : GoalText). is_goal_within x ≡ true) (sym load.same) (texts_keep_limits_law.1 before goal g read.0)
 within-goal m before goal after g (Err e) read load = tt
 
 -- the answers where a module or a goal was refused

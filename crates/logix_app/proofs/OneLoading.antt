@@ -7,7 +7,7 @@ use Rattle.fcp_model.specs.NameList.{reserved_names}
 use Rattle.fcp_model.specs.Spelling.{Bytes}
 use Rattle.fcp_loader.specs.Faults.{faults_of, goal_faults_of}
 use Rattle.fcp_loader.specs.Firsts.{first_of}
-use Rattle.fcp_reader.specs.Sources.{IsModule, IsGoal, IsGoalFault, names_behind_goal}
+use Rattle.fcp_reader.specs.Sources.{IsGoal, names_behind_goal}
 use Rattle.fcp_reader.proofs.TextLaws.{one-module, one-goal, no-module-fault, no-goal-fault, one_fault_law}
 use Rattle.logix_app.specs.Loading.{IsLoadedModule, IsFirstFault, in_text, in_module, AreLoaded, IsFirstGoalFaultFor, IsFirstGoalFault}
 use Rattle.logix_app.specs.Loading as loading

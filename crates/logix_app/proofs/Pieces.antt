@@ -26,9 +26,11 @@ pub none-put : (old : Option (List ℕ)) (before : ℕ) (text : List ℕ) → Ha
 none-put old before text = record { done = []; whole = refl; written = appended-nil old; quiet = refl }
 
 pub piece-rest : (n : ℕ) (xs : List ℕ) → take n xs ++ take (length xs - n) (drop n xs) ≡ xs
-piece-rest n xs = ap (λ ys. take n xs ++ ys) (take_all (length xs - n) (drop n xs) (omega (arith, length-drop n xs))) ∙ take-append-drop n xs
+piece-rest n xs =
+    ap (λ ys. take n xs ++ ys) (take_all (length xs - n) (drop n xs) (omega (arith, length-drop n xs))) ∙ take-append-drop n xs
 
-pub more-put : (old new new' : Option (List ℕ)) (before now now' : ℕ) (text rest piece rest' : List ℕ) → HasPut old new before now text rest → piece ++ rest' ≡ rest → new' ≡ appended new piece → now' ≡ now → HasPut old new' before now' text rest'
+pub more-put : (old new new' : Option (List ℕ)) (before now now' : ℕ) (text rest piece rest' : List ℕ) → HasPut old new before now text rest
+    → piece ++ rest' ≡ rest → new' ≡ appended new piece → now' ≡ now → HasPut old new' before now' text rest'
 more-put old new new' before now now' text rest piece rest' h whole w q = record {
   done = h.done ++ piece;
   whole = append_assoc h.done piece rest' ∙ ap (λ x. h.done ++ x) whole ∙ h.whole;
@@ -40,8 +42,10 @@ pub no-rest : (rest : List ℕ) → (length rest == 0) ≡ true → rest ≡ []
 no-rest [] e = refl
 no-rest (b ∷ bs) e = absurd (omega (arith, eqb-true (length (b ∷ bs)) 0 e))
 
-pub all-put : (old new : Option (List ℕ)) (before now : ℕ) (text rest : List ℕ) → HasPut old new before now text rest → rest ≡ [] → (new ≡ appended old text) × (now ≡ before)
-all-put old new before now text rest h e = (h.written ∙ ap (appended old) (sym (append-nil h.done) ∙ ap (λ x. h.done ++ x) (sym e) ∙ h.whole), h.quiet)
+pub all-put : (old new : Option (List ℕ)) (before now : ℕ) (text rest : List ℕ) → HasPut old new before now text rest → rest ≡ []
+    → (new ≡ appended old text) × (now ≡ before)
+all-put old new before now text rest h e =
+    (h.written ∙ ap (appended old) (sym (append-nil h.done) ∙ ap (λ x. h.done ++ x) (sym e) ∙ h.whole), h.quiet)
 
 -- a front of a front
 front : (j k : ℕ) (xs : List ℕ) → (m : ℕ) × (take j (take k xs) ≡ take m xs)
@@ -50,14 +54,17 @@ front j k xs = elim (cases_lt k j) [
   | inr h ↦ (j, take-take j k xs h)
 ]
 
-pub front-put : (old new new' : Option (List ℕ)) (before now now' : ℕ) (text rest : List ℕ) (k : ℕ) → HasPut old new before now text rest → StopsShort new new' now now' (take k rest) → StopsShort old new' before now' text
+pub front-put : (old new new' : Option (List ℕ)) (before now now' : ℕ) (text rest : List ℕ) (k : ℕ) → HasPut old new before now text rest
+    → StopsShort new new' now now' (take k rest) → StopsShort old new' before now' text
 front-put old new new' before now now' text rest k h s =
     let f : (m : ℕ) × (take s.front.0 (take k rest) ≡ take m rest) = front s.front.0 k rest in
     record {
       front = (
         length h.done + f.0,
-        s.front.1 ∙ ap (λ o. appended o (take s.front.0 (take k rest))) h.written ∙ appended-append old h.done (take s.front.0 (take k rest))
-            ∙ ap (λ x. appended old (h.done ++ x)) f.1 ∙ ap (appended old) (sym (take-append-add h.done rest f.0) ∙ ap (take (length h.done + f.0)) h.whole),
+        s.front.1 ∙ ap (λ o. appended o (take s.front.0 (take k rest))) h.written
+            ∙ appended-append old h.done (take s.front.0 (take k rest))
+            ∙ ap (λ x. appended old (h.done ++ x)) f.1
+            ∙ ap (appended old) (sym (take-append-add h.done rest f.0) ∙ ap (take (length h.done + f.0)) h.whole),
       );
       later = subst (λ n. n ≤ now') h.quiet s.later;
       rose = subst (λ n. Rose n now') h.quiet s.rose;

@@ -1,6 +1,5 @@
 -- What is answered to an order over the bytes of the file that it names: a status with the text that is printed.
 use Rattle.std.specs.Prelude.{◌≡◌, true, false, List, []}
-use Rattle.fcp_model.specs.declared.fault.Fault.{Fault}
 use Rattle.fcp_model.specs.declared.run.Limits.{Limits}
 use Rattle.fcp_model.specs.declared.run.Outcome.{Outcome}
 use Rattle.fcp_model.specs.declared.source.Module.{Module}

@@ -98,12 +98,3 @@ pub record HasWork (words : List Bytes) (held : Option Entries) (order : Order) 
 abbrev pub Completes : List Bytes → Option Entries → ℕ → ℕ → ℕ → ℕ → Status → Type 0
 Completes words held shelf_before shelf_now sink_before sink_now s =
     (order : Order) → HasWork words held order → ¬ Rose shelf_before shelf_now → ¬ Rose sink_before sink_now → IsDoneOrNoMemory order s
-
--- ---- two calls: what is answered is determined
-
--- Where the shelf tells what it holds and counts no fault, two answers to the same words that are not want of memory have
--- one status and one text.
-abbrev pub CallsHaveOneAnswer : Type 0
-CallsHaveOneAnswer = (words : List Bytes) (entries : Entries) (before now : ℕ) (last last' : Option Bytes) (s s' : Status) (text text' : Bytes)
-    → Answers words (Some entries) before now last s text → Answers words (Some entries) before now last' s' text' → ¬ Rose before now
-    → (s ≡ status.NoMemory → ⊥) → (s' ≡ status.NoMemory → ⊥) → (s ≡ s') × (text ≡ text')

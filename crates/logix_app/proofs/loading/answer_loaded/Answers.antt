@@ -20,5 +20,5 @@ returns-in_ok-outcome c file text loaded =
     let outcome = c.in_ok-outcome.field-0.outcome in
     let bytes = c.in_ok-outcome.field-0.text.items in
     ran file text m g c.args.names.now outcome bytes loaded (sym c.is_runnable.ensures ∙ c.if-is_runnable.true)
-    (subst (λ limits. IsOneWorkerReport (program_of m) (start_of m g) limits [] c.args.names.now (goal_variables g.names) outcome bytes) c.limits.ensures
-    c.in_ok-outcome.ensures)
+    (subst (λ limits. IsOneWorkerReport (program_of m) (start_of m g) limits [] c.args.names.now (goal_variables g.names) outcome bytes)
+    c.limits.ensures c.in_ok-outcome.ensures)

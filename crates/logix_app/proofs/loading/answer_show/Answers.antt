@@ -9,4 +9,6 @@ returns-in-Ok c =
     (shown c.args.file.now c.in-Ok.loaded c.load_text.new.names c.in-Ok.ensures.loads)
 
 pub returns : goal.returns
-returns c = refused-show c.args.file.now c.load_text.new.names c.in-Err.refused c.module_refusal.result c.in-Err.ensures.loads c.module_refusal.ensures
+returns c =
+    refused-show c.args.file.now c.load_text.new.names c.in-Err.refused c.module_refusal.result c.in-Err.ensures.loads
+    c.module_refusal.ensures

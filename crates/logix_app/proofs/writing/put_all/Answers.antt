@@ -10,7 +10,10 @@ returns-in-Failed g c = front-put _ _ _ _ _ _ _ c.loop-rest.rest.now c.min-count
 
 pub loop-rest-preserved : goal.loop-rest-preserved
 loop-rest-preserved g c =
-    more-put _ _ _ _ _ _ _ c.loop-rest.rest.now _ _ c.loop-rest.invariant (piece-rest c.min-count.result c.loop-rest.rest.now) c.in_default.ensures.put.0 c.in_default.ensures.put.1
+    more-put _ _ _ _ _ _ _ c.loop-rest.rest.now _ _ c.loop-rest.invariant
+    (piece-rest c.min-count.result c.loop-rest.rest.now) c.in_default.ensures.put.0 c.in_default.ensures.put.1
 
 pub returns : goal.returns
-returns g c = all-put _ _ _ _ _ c.loop-rest.rest.now c.loop-rest.invariant (no-rest c.loop-rest.rest.now (sym c.is_empty.ensures ∙ c.loop-rest-test.false))
+returns g c =
+    all-put _ _ _ _ _ c.loop-rest.rest.now c.loop-rest.invariant
+    (no-rest c.loop-rest.rest.now (sym c.is_empty.ensures ∙ c.loop-rest-test.false))
