@@ -12,3 +12,4 @@ pub mod SourceItems
 pub mod SourceClauses
 pub mod Quotes
 pub mod Writing
+pub mod Buffering

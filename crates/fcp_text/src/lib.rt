@@ -1,6 +1,7 @@
 //! Texts of Flat Concurrent Prolog: their tokens, and terms, clauses and modules as texts again.
 #![tactic(auto)]
 
+mod buffer;
 mod bytes;
 mod laws;
 mod lexer;
@@ -14,9 +15,9 @@ mod write_clauses;
 mod write_expressions;
 mod write_items;
 mod write_terms;
+mod writers;
 
 pub use laws::{tokens_are_few, tokens_are_spelled_well, tokens_stand_in_order};
 pub use lexer::{MOST_BYTES, Token, tokens};
 pub use pieces::Kind;
-pub use write_clauses::{write_clause, write_module};
-pub use write_terms::write_term;
+pub use writers::{write_clause, write_module, write_term};

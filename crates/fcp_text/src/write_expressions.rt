@@ -1,9 +1,9 @@
 ghost use Rattle.std.specs.Prelude.{◌≡◌};
 ghost use Rattle.fcp_text.specs.SourceExpressions.{expr_text, operand_text, operator_text};
 ghost use Rattle.fcp_text.specs.SourceItems.{comparison_text};
-ghost use Rattle.fcp_text.specs.Writing.{IsWritten};
+ghost use Rattle.fcp_text.specs.Buffering.{IsBuffered};
 
-use crate::write_bytes::put;
+use crate::buffer::{Buffer, put};
 use crate::write_terms::write_term;
 use fcp_model::{ArithOp, CompareOp, Expr, Names};
 use logix_edge::{Sink, SinkFailed};
@@ -13,33 +13,39 @@ use logix_edge::{Sink, SinkFailed};
 pub(crate) fn write_expression<K: Sink>(
     names: &Names,
     expression: &Expr,
+    buffer: &mut Buffer,
     sink: &mut K,
 ) -> Result<(), SinkFailed>
-    ensures { IsWritten (K.written sink.old) (K.written sink.new) (K.faults sink.old) (K.faults sink.new)
+    ensures { IsBuffered (K.written sink.old) (K.written sink.new) buffer.old buffer.new (K.faults sink.old) (K.faults sink.new)
         (expr_text names.now expression.now) result }
 {
     match expression {
-        Expr::Leaf(term, _) => write_term(names, term, sink),
+        Expr::Leaf(term, _) => write_term(names, term, buffer, sink),
         Expr::Op(operator, left, right) => {
-            write_operand(names, left.get(), sink)?;
-            put(sink, operator_sign(*operator))?;
-            write_operand(names, right.get(), sink)
+            write_operand(names, left.get(), buffer, sink)?;
+            put(buffer, sink, operator_sign(*operator))?;
+            write_operand(names, right.get(), buffer, sink)
         }
     }
 }
 
 /// Puts an operand: in parentheses where it is an operation.
 #[cycle(expressions)]
-fn write_operand<K: Sink>(names: &Names, operand: &Expr, sink: &mut K) -> Result<(), SinkFailed>
-    ensures { IsWritten (K.written sink.old) (K.written sink.new) (K.faults sink.old) (K.faults sink.new)
+fn write_operand<K: Sink>(
+    names: &Names,
+    operand: &Expr,
+    buffer: &mut Buffer,
+    sink: &mut K,
+) -> Result<(), SinkFailed>
+    ensures { IsBuffered (K.written sink.old) (K.written sink.new) buffer.old buffer.new (K.faults sink.old) (K.faults sink.new)
         (operand_text names.now operand.now) result }
 {
     match operand {
-        Expr::Leaf(term, _) => write_term(names, term, sink),
+        Expr::Leaf(term, _) => write_term(names, term, buffer, sink),
         Expr::Op(_, _, _) => {
-            put(sink, b"(")?;
-            write_expression(names, operand, sink)?;
-            put(sink, b")")
+            put(buffer, sink, b"(")?;
+            write_expression(names, operand, buffer, sink)?;
+            put(buffer, sink, b")")
         }
     }
 }

@@ -13,12 +13,12 @@ overflow_add-at g c =
 
 pub returns-in_err-put : goal.returns-in_err-put
 returns-in_err-put g c =
-    stop _ c.from_residual.ensures.0 c.in_err-put.ensures _
+    stop _ _ _ c.from_residual.ensures.0 c.in_err-put.ensures _
     (moved (quote_step c.loop-at.rest.now c.in-Some.at (sym c.in-Some.ensures)) c.loop-at.invariant.0)
 
 pub returns-in_err-put-2 : goal.returns-in_err-put-2
 returns-in_err-put-2 g c =
-    stop _ c.from_residual-in_err-put-2.ensures.0 c.in_err-put-2.ensures _
+    stop _ _ _ c.from_residual-in_err-put-2.ensures.0 c.in_err-put-2.ensures _
     (go_on c.in_ok-put.ensures (moved (quote_step c.loop-at.rest.now c.in-Some.at (sym c.in-Some.ensures)) c.loop-at.invariant.0))
 
 pub overflow_add-rest : goal.overflow_add-rest
@@ -35,4 +35,4 @@ loop-at-preserved g c = (
 )
 
 pub returns : goal.returns
-returns g c = end _ _ _ (moved (no_quote c.loop-at.rest.now (sym c.in_default.ensures)) c.loop-at.invariant.0) c.put-2.ensures
+returns g c = end _ _ _ _ (moved (no_quote c.loop-at.rest.now (sym c.in_default.ensures)) c.loop-at.invariant.0) c.put-2.ensures

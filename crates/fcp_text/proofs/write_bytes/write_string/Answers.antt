@@ -11,17 +11,17 @@ pub returns-in_err-put : goal.returns-in_err-put
 returns-in_err-put g c =
     let bytes : name_at c.args.names.now c.args.string.0 ≡ c.as_bytes-bytes.result.now = search rules in
     let e : is_name (name_at c.args.names.now c.args.string.0) ≡ false = search rules in
-    stop _ c.from_residual.ensures.0 c.in_err-put.ensures _ (begin_as (quoted _ _ bytes e))
+    stop _ _ _ c.from_residual.ensures.0 c.in_err-put.ensures _ (begin_as (quoted _ _ bytes e))
 
 pub returns-in_err-write_doubled : goal.returns-in_err-write_doubled
 returns-in_err-write_doubled g c =
     let bytes : name_at c.args.names.now c.args.string.0 ≡ c.as_bytes-bytes.result.now = search rules in
     let e : is_name (name_at c.args.names.now c.args.string.0) ≡ false = search rules in
-    stop _ c.from_residual-in_err-write_doubled.ensures.0 c.in_err-write_doubled.ensures _
+    stop _ _ _ c.from_residual-in_err-write_doubled.ensures.0 c.in_err-write_doubled.ensures _
     (go_on c.in_ok-put.ensures (begin_as (quoted _ _ bytes e)))
 
 pub returns : goal.returns
 returns g c =
     let bytes : name_at c.args.names.now c.args.string.0 ≡ c.as_bytes-bytes.result.now = search rules in
     let e : is_name (name_at c.args.names.now c.args.string.0) ≡ false = search rules in
-    end _ _ _ (go_on c.in_ok-write_doubled.ensures (go_on c.in_ok-put.ensures (begin_as (quoted _ _ bytes e)))) c.put-3.ensures
+    end _ _ _ _ (go_on c.in_ok-write_doubled.ensures (go_on c.in_ok-put.ensures (begin_as (quoted _ _ bytes e)))) c.put-3.ensures

@@ -11,7 +11,7 @@ past_end = record { at = 0; name = record { 0 = 0 }; arity = 0 }
 
 pub returns-in_err-write_export : goal.returns-in_err-write_export
 returns-in_err-write_export g c =
-    stop _ c.from_residual.ensures.0 c.in_err-write_export.ensures _
+    stop _ _ _ c.from_residual.ensures.0 c.in_err-write_export.ensures _
     (begin_as (parted_first (export_text c.args.names.now) (codes ",") c.args.exports.now c.args.from
     (get_or c.args.exports.now c.args.from past_end) (omega arith) (element_is c.args.exports.now c.args.from past_end (omega arith))))
 
@@ -23,13 +23,13 @@ loop-at-init g c =
 
 pub returns-in_err-put : goal.returns-in_err-put
 returns-in_err-put g c =
-    stop _ c.from_residual-in_err-put.ensures.0 c.in_err-put.ensures _
+    stop _ _ _ c.from_residual-in_err-put.ensures.0 c.in_err-put.ensures _
     (moved (behind_here (export_text c.args.names.now) (codes ",") c.args.exports.now c.loop-at.at past_end
     (omega arith)) c.loop-at.invariant)
 
 pub returns-in_err-write_export-2 : goal.returns-in_err-write_export-2
 returns-in_err-write_export-2 g c =
-    stop _ c.from_residual-in_err-write_export-2.ensures.0 c.in_err-write_export-2.ensures _
+    stop _ _ _ c.from_residual-in_err-write_export-2.ensures.0 c.in_err-write_export-2.ensures _
     (go_on c.in_ok-put.ensures
     (moved (behind_step (export_text c.args.names.now) (codes ",") c.args.exports.now c.loop-at.at
     (get_or c.args.exports.now c.loop-at.at past_end) (omega arith)

@@ -7,6 +7,6 @@ use Rattle.fcp_text.proofs.write_items.write_items.Given as goal
 -- what is left to write is the items from here on, each behind its mark
 abbrev pub invariant-loop-at : goal.invariant-loop-at
 invariant-loop-at g l =
-    HasRest (g.K.Sink.written l.fn.sink) (g.K.Sink.written l.sink) (g.K.Sink.faults l.fn.sink) (g.K.Sink.faults l.sink)
+    HasRest (g.K.Sink.written l.fn.sink) (g.K.Sink.written l.sink) l.fn.buffer l.buffer (g.K.Sink.faults l.fn.sink) (g.K.Sink.faults l.sink)
     (parted (codes ", ") (map (item_text l.names) (drop l.from l.items)))
     (each_behind (codes ", ") (map (item_text l.names) (drop l.at l.items)))

@@ -1,0 +1,5 @@
+use Rattle.fcp_text.proofs.Progress.{flushed}
+use Rattle.fcp_text.proofs.writers.write_clause.Goals as goal
+
+pub returns : goal.returns
+returns g c = flushed _ _ _ c.new-buffer.ensures c.in_ok-write_clause.ensures c.flush.ensures.written
