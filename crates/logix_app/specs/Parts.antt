@@ -5,6 +5,7 @@ use Rattle.fcp_model.specs.declared.fault.Refused.TheVariants as refused
 use Rattle.fcp_model.specs.declared.source.Module.{Module}
 use Rattle.fcp_model.specs.declared.source.GoalText.{GoalText}
 use Rattle.fcp_model.specs.Spelling.{Bytes}
+use Rattle.fcp_text.specs.SourceClauses.{module_text}
 use Rattle.fcp_loader.specs.Faults.{goal_faults_of}
 use Rattle.fcp_reader.specs.Sources.{IsGoal, names_behind_goal}
 use Rattle.logix_app.specs.declared.answer.Answer.{Answer}
@@ -18,6 +19,7 @@ use Rattle.logix_app.specs.Loading.{IsLoadedModule, IsFirstFault, IsFirstGoalFau
 abbrev pub text_of : Output → Bytes
 text_of (output.Line line) = line.now
 text_of (output.Text text) = text.items
+text_of (output.Module names loaded) = module_text names loaded
 
 -- a module that was loaded from a text, with its strings after it, or why none was
 abbrev pub LoadsText : Bytes → List Bytes → Result Module Refused → Type 0

@@ -1,7 +1,11 @@
 ghost use Rattle.std.specs.Prelude.{◌≡◌};
+ghost use Rattle.logix_edge.specs.Sinks.{IsPut};
 ghost use Rattle.logix_app.specs.Parts.{text_of};
 
 use crate::Status;
+use crate::writing::{put_all, put_module};
+use fcp_model::{Loaded, Names};
+use logix_edge::{Put, Sink};
 
 /// A status with what is printed.
 #[derive(Drop)]
@@ -17,6 +21,8 @@ pub enum Output {
     Line(&'static [u8]),
     /// A text of this call.
     Text(Vec<u8>),
+    /// The canonical text of a module, whose strings these are.
+    Module(Names, Loaded),
 }
 
 impl Answer {
@@ -31,13 +37,14 @@ impl Answer {
         }
     }
 
-    /// The bytes that are printed.
-    pub fn text(&self) -> &[u8]
-        ensures { result.now ≡ text_of self.now.output }
+    /// Puts what is printed to a sink.
+    pub fn put<K: Sink>(&self, sink: &mut K) -> Put
+        ensures { IsPut (K.written sink.old) (K.written sink.new) (K.faults sink.old) (K.faults sink.new) (text_of self.now.output) result }
     {
         match &self.output {
-            Output::Line(line) => line,
-            Output::Text(text) => text.as_slice(),
+            Output::Line(line) => put_all(sink, line),
+            Output::Text(text) => put_all(sink, text.as_slice()),
+            Output::Module(names, loaded) => put_module(names, loaded, sink),
         }
     }
 }

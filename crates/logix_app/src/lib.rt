@@ -20,7 +20,6 @@ use logix_edge::{Put, Shelf, Sink};
 pub use status::Status;
 use std::alloc::Global;
 pub use words::{Order, WordFault, read_words};
-use writing::put_all;
 
 /// Does what the words ask for. `run FILE GOAL` runs the goal over the module of the file, with one worker, and puts the
 /// report to the sink; `show FILE` puts the module's canonical text. Any other answer but that memory ran out is a line of
@@ -43,7 +42,7 @@ pub fn run_alone<S: Shelf, K: Sink>(
     let Ok(answer) = answer_of(alloc, words, shelf) else {
         return Status::NoMemory;
     };
-    match put_all(sink, answer.text()) {
+    match answer.put(sink) {
         Put::Done => answer.status,
         Put::Failed => Status::Sink,
     }

@@ -2,7 +2,6 @@
 ghost use Rattle.std.specs.Prelude.{◌≡◌, ◌≤◌, true, length, IfOk};
 ghost use Rattle.fcp_model.specs.NameList.{reserved_names};
 ghost use Rattle.fcp_model.specs.Spelling.{Bytes};
-ghost use Rattle.fcp_text.specs.SourceClauses.{module_text};
 ghost use Rattle.fcp_reader.specs.Limits.{is_module_within, is_goal_within};
 ghost use Rattle.logix_app.specs.Answers.{default_limits, AnswersRun, AnswersShow};
 ghost use Rattle.logix_app.specs.Loading.{IsLoadedModule, AreLoaded, is_runnable};
@@ -16,8 +15,6 @@ use crate::lines::{goal_refusal, module_refusal};
 use fcp_loader::{load, load_goal};
 use fcp_model::{GoalText, Limits, Loaded, LoadedGoal, Names, NoMemory, Refused};
 use fcp_reader::{read_goal, read_module};
-use fcp_text::write_module;
-use logix_edge::Gathered;
 use plain_engine::{Report, run_goal};
 use std::alloc::Global;
 
@@ -147,19 +144,8 @@ pub fn answer_show(alloc: Global, file: &[u8]) -> Result<Answer, NoMemory>
     match load_text(alloc, file, &mut names) {
         Ok(loaded) => Ok(Answer {
             status: Status::Shown,
-            output: Output::Text(canonical_text(alloc, &names, &loaded)?),
+            output: Output::Module(names, loaded),
         }),
         Err(refused) => module_refusal(alloc, refused),
-    }
-}
-
-/// The canonical text of a module, whose strings these are.
-fn canonical_text(alloc: Global, names: &Names, loaded: &Loaded) -> Result<Vec<u8>, NoMemory>
-    ensures { IfOk result (λ text. text.items ≡ module_text names.now loaded.now) }
-{
-    let mut gathered = Gathered::make(alloc);
-    match write_module(names, loaded.module(), &mut gathered) {
-        Ok(()) => Ok(gathered.into_bytes()),
-        Err(_) => Err(NoMemory),
     }
 }
