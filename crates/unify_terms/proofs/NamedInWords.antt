@@ -42,10 +42,10 @@ module _ (p : Naming) (m : Memory) (names : Names p m) (bs : WordList) (s : Bind
   named (tuple ts) w a only o d e = absurd (no_step (ap (leads_on only) d.1) e)
   named (var v) w a only o d e =
       let h : Some (only, d.0) ≡ Some (o, a) =
-          sym (ap (leads_on only) d.1) ∙ e in let k : d.0 ≡ a = ap (second a) h in subst (λ (b : ℕ). p.is_place b ≡ true) k d.2.0
+      sym (ap (leads_on only) d.1) ∙ e in let k : d.0 ≡ a = ap (second a) h in subst (λ (b : ℕ). p.is_place b ≡ true) k d.2.0
   named (ro v) w a only o d e =
       let h : Some (true, d.0) ≡ Some (o, a) =
-          sym (ap (leads_on only) d.1) ∙ e in let k : d.0 ≡ a = ap (second a) h in subst (λ (b : ℕ). p.is_place b ≡ true) k d.2.0
+      sym (ap (leads_on only) d.1) ∙ e in let k : d.0 ≡ a = ap (second a) h in subst (λ (b : ℕ). p.is_place b ≡ true) k d.2.0
   named (first k) w a only o d e = absurd d
 
   listed : (ts : Terms Variable) (ws : List ℕ) → DenotesList p m ts ws → Each (HasTerm p m) ws
