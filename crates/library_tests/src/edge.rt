@@ -1,8 +1,6 @@
 //! Tests of `logix_edge`: shelves and sinks.
 use fcp_model::Seq;
-use logix_edge::{
-    Fetched, FileShelf, Gathered, MemoryShelf, MemorySink, OutSink, Put, Shelf, Sink,
-};
+use logix_edge::{Fetched, FileShelf, MemoryShelf, MemorySink, OutSink, Put, Shelf, Sink};
 use std::alloc::Global;
 use std::cell::Cell;
 use std::fmt::Display;
@@ -124,14 +122,4 @@ fn a_write_that_takes_nothing_is_a_fault(rt: HostRuntime) {
     assert_eq!(rt; narrow.room.get(), 2);
     assert_eq!(rt; sink.put(b"def"), Put::Failed);
     assert_eq!(rt; narrow.room.get(), 0);
-}
-
-#[test]
-fn pieces_are_gathered_in_order(rt: HostRuntime) {
-    let mut gathered = Gathered::make(rt.alloc());
-    for piece in [b"one".as_slice(), b"".as_slice(), b"three".as_slice()] {
-        assert_eq!(rt; gathered.put(piece), Put::Done);
-    }
-    let bytes = gathered.into_bytes();
-    assert_eq!(rt; bytes.as_slice(), b"onethree".as_slice());
 }

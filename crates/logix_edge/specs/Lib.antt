@@ -1,5 +1,4 @@
 pub mod Causes
-pub mod Gathering
 pub mod LastFailed
 pub mod MemoryShelves
 pub mod MemorySinks

@@ -4,7 +4,6 @@
 mod calls;
 mod faults;
 mod file_shelf;
-mod gathered;
 mod memory_shelf;
 mod memory_sink;
 mod out_sink;
@@ -13,7 +12,6 @@ mod sink;
 mod streams;
 
 pub use file_shelf::FileShelf;
-pub use gathered::Gathered;
 pub use memory_shelf::MemoryShelf;
 pub use memory_sink::MemorySink;
 pub use out_sink::OutSink;
