@@ -11,7 +11,7 @@ use Rattle.fcp_model.specs.ProcedureNames.{same_procedure}
 use Rattle.fcp_model.specs.Tests.{Kind, kind}
 use Rattle.fcp_model.specs.Programs.{user, true'}
 use Rattle.std.proofs.lemmas.List.{length-map}
-use Rattle.fcp_model.specs.Translation.{head_called, term_of, terms_of, kinds, reserved_test, user_goal}
+use Rattle.fcp_model.specs.Translation.{name_with_arity, term_of, terms_of, kinds, reserved_test, user_goal}
 use Rattle.clause_compiler.specs.declared.emitter.Emitter.{Emitter}
 use Rattle.clause_compiler.specs.Slots.{push}
 use Rattle.clause_compiler.specs.Instructions as ins
@@ -71,24 +71,24 @@ kind_tested a b n (suc (suc j)) ts t k et h ek ab =
 
 -- a call of a procedure was emitted
 pub user_called : (hs : List ProcedureName) (name : Sym) (a b c : Emitter) (n g k p : ℕ) (ts : List source.Term)
-    → (nat_eq name.0 0 && nat_eq k 0) ≡ false → k ≡ length ts → p ≡ position_or_len (same_procedure (head_called name k)) hs → g ≡ n + k
+    → (nat_eq name.0 0 && nat_eq k 0) ≡ false → k ≡ length ts → p ≡ position_or_len (same_procedure (name_with_arity name k)) hs → g ≡ n + k
     → Emits a b (puts n g (terms_of (map term_of ts))) → Emits b c (Spawn p n k ∷ [])
     → Emits a c (goal_code n (user_goal hs name (length ts) (map term_of ts)))
 user_called hs name a b c n g k p ts untrue ek ep eg ab bc = by (length ts) refl
   where
     whole : (l : ℕ) → length ts ≡ l
         → Emits a c (puts n (n + length (map term_of ts)) (terms_of (map term_of ts))
-        ++ Spawn (position_or_len (same_procedure (head_called name l)) hs) n (length (map term_of ts)) ∷ [])
+        ++ Spawn (position_or_len (same_procedure (name_with_arity name l)) hs) n (length (map term_of ts)) ∷ [])
     whole l e =
         let m : k ≡ length (map term_of ts) = ek ∙ sym (length-map ts term_of) in
         subst (λ x. Emits a c x) (λ j. puts n ((eg ∙ ap (λ i. n + i) m) j) (terms_of (map term_of ts))
-        ++ Spawn ((ep ∙ ap (λ i. position_or_len (same_procedure (head_called name i)) hs) (ek ∙ e)) j) n (m j) ∷ [])
+        ++ Spawn ((ep ∙ ap (λ i. position_or_len (same_procedure (name_with_arity name i)) hs) (ek ∙ e)) j) n (m j) ∷ [])
         (emits_on a b c _ _ ab bc)
 
     named : (i : ℕ) → name.0 ≡ i → length ts ≡ 0
         → Emits a c (goal_code n (elim i [
           | zero ↦ true'
-          | suc j ↦ user (position_or_len (same_procedure (head_called name 0)) hs)
+          | suc j ↦ user (position_or_len (same_procedure (name_with_arity name 0)) hs)
               (map term_of ts)
         ]))
     named zero e z = let y : true ≡ false = (λ j. nat_eq (sym e j) 0 && nat_eq (sym (ek ∙ z) j) 0) ∙ untrue in let x : ⊥ = cc in absurd x

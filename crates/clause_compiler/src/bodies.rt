@@ -3,7 +3,7 @@ ghost use Rattle.std.specs.Prelude.{◌≡◌, ◌+◌, ◌&&◌, nat_eq, [], �
 ghost use Rattle.std.specs.List.{position_or_len};
 ghost use Rattle.clause_compiler.specs.Instructions.{Spawn};
 ghost use Rattle.fcp_model.specs.ProcedureNames.{procedure_names, same_procedure};
-ghost use Rattle.fcp_model.specs.Translation.{head_called, term_of, goal_of, goals_of};
+ghost use Rattle.fcp_model.specs.Translation.{name_with_arity, term_of, goal_of, goals_of};
 ghost use Rattle.clause_compiler.specs.Reading.{Emits};
 ghost use Rattle.clause_compiler.specs.ClauseCode as spec;
 
@@ -64,7 +64,7 @@ fn is_true(name: Sym, args: u8) -> bool
 /// The number of a procedure, or one past the last where the module has none of that name.
 #[tactic(auto, using(crate::proofs::CalledGoals::found_at, crate::proofs::CalledGoals::found_nowhere))]
 fn procedure_called(loaded: &Loaded, name: Sym, arity: u32) -> u32
-    ensures { result ≡ position_or_len (same_procedure (head_called name arity)) (procedure_names loaded.now.clauses) }
+    ensures { result ≡ position_or_len (same_procedure (name_with_arity name arity)) (procedure_names loaded.now.clauses) }
 {
     match loaded.find(name, arity) {
         Some(procedure) => procedure,

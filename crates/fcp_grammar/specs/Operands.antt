@@ -32,8 +32,8 @@ abbrev pub sums_of : ℕ → LeftSide → List Level → Level → ℕ → Sums
 sums_of at left groups level n = record { at = at; left = left; groups = groups; level = level; operators = n }
 
 -- an operator
-abbrev pub behind_operator : Sums → ArithOp → Expr → ItemStep
-behind_operator s op e =
+abbrev pub after_operator : Sums → ArithOp → Expr → ItemStep
+after_operator s op e =
     Goes (S.Sum (sums_of s.at s.left s.groups (before s.level op e) (more s.operators)) start) (over_operators s.operators)
 
 -- a `)`: the parenthesis is an operand of what stood before it
@@ -67,8 +67,8 @@ behind_item s e = ends s.at s.left s.groups (whole s.level e)
 -- a terminal behind an operand, where the item goes on
 abbrev pub behind_part : Sums → Expr → Terminal → ItemStep
 behind_part s e (terminal.Operator Mod at) = Refused
-behind_part s e (terminal.Operator op at) = behind_operator s op e
-behind_part s e (terminal.Str name F.Mod at) = behind_operator s Mod e
+behind_part s e (terminal.Operator op at) = after_operator s op e
+behind_part s e (terminal.Str name F.Mod at) = after_operator s Mod e
 behind_part s e terminal.RoundClose = behind_close s e
 behind_part s e (terminal.Compare op) = behind_comparison s op e
 behind_part s e _ = Refused

@@ -20,13 +20,13 @@ fn more(count: u32) -> u32
     }
 }
 
-fn behind_operator(
+fn after_operator(
     alloc: Global,
     sums: Sums,
     operator: ArithOp,
     operand: Expr,
 ) -> Result<ItemStep, NoMemory>
-    ensures { IfOk result (λ r. r ≡ spec.behind_operator sums operator operand) }
+    ensures { IfOk result (λ r. r ≡ spec.after_operator sums operator operand) }
 {
     let Sums {
         at,
@@ -149,9 +149,9 @@ pub fn behind_operand(
     match terminal {
         Terminal::Operator(operator, _) => match operator {
             ArithOp::Mod => Ok(ItemStep::Refused),
-            _ => behind_operator(alloc, sums, operator, operand),
+            _ => after_operator(alloc, sums, operator, operand),
         },
-        Terminal::Str(_, StringForm::Mod, _) => behind_operator(alloc, sums, ArithOp::Mod, operand),
+        Terminal::Str(_, StringForm::Mod, _) => after_operator(alloc, sums, ArithOp::Mod, operand),
         Terminal::RoundClose => behind_close(alloc, sums, operand),
         Terminal::Compare(comparison) => behind_comparison(alloc, sums, comparison, operand),
         _ => Ok(ItemStep::Refused),

@@ -49,14 +49,14 @@ abbrev pub expr_of : source_expr.Expr → Expr ℕ
 expr_of = source_expr.fold-Expr (Expr ℕ) expr_step
 
 -- a procedure by its name and its number of arguments
-abbrev pub head_called : Sym → ℕ → ProcedureName
-head_called name arity = record { name = name; arity = arity }
+abbrev pub name_with_arity : Sym → ℕ → ProcedureName
+name_with_arity name arity = record { name = name; arity = arity }
 
 -- a call: `true` with no argument is built in; else the number of its procedure, or the one past the last where the
 -- module has none, which has no clause
 abbrev pub user_goal : List ProcedureName → Sym → ℕ → List (Term ℕ) → Goal ℕ
-user_goal hs name zero ts = elim name.0 [ zero ↦ true' | suc k ↦ user (position_or_len (same_procedure (head_called name 0)) hs) ts ]
-user_goal hs name (suc n) ts = user (position_or_len (same_procedure (head_called name (suc n))) hs) ts
+user_goal hs name zero ts = elim name.0 [ zero ↦ true' | suc k ↦ user (position_or_len (same_procedure (name_with_arity name 0)) hs) ts ]
+user_goal hs name (suc n) ts = user (position_or_len (same_procedure (name_with_arity name (suc n))) hs) ts
 
 -- an item of a body or a goal; an item that is only a test calls no procedure
 abbrev pub goal_of : List ProcedureName → Call → Goal ℕ

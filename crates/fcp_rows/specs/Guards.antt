@@ -10,8 +10,8 @@ use Rattle.fcp_rows.specs.Examples.{a, c, p, q, X, R, int, fact, rule, procedure
 
 -- `p(a,1). p(X,2) :- otherwise | true. q(c).` with the goal `p(X?,R), q(X)`: the first clause waits, so that `otherwise`
 -- waits too; it holds once the first clause fails
-abbrev pub otherwise_waits_behind_a_waiting_clause : Type 0
-otherwise_waits_behind_a_waiting_clause =
+abbrev pub otherwise_waits_after_a_waiting_clause : Type 0
+otherwise_waits_after_a_waiting_clause =
     Prints (example (procedure p 2 (fact 0 (a ∷ int 1 ∷ []) ∷ rule 1 (var 1 ∷ int 2 ∷ []) (otherwise ∷ []) (true' ∷ []) ∷ [])
     ∷ procedure q 1 (fact 0 (c ∷ []) ∷ []) ∷ []) (X ∷ R ∷ []) (user 0 (ro 1 ∷ var 2 ∷ []) ∷ user 1 (var 1 ∷ []) ∷ [])) Terminated (
     codes "logix log 1"
@@ -44,8 +44,8 @@ unknown_holds_before_the_binding =
     ∷ [])
 
 -- that procedure and `q(a).` with the goal `q(X), p(X)`
-abbrev pub unknown_fails_behind_the_binding : Type 0
-unknown_fails_behind_the_binding =
+abbrev pub unknown_fails_after_the_binding : Type 0
+unknown_fails_after_the_binding =
     Prints (example (unknown_tester ∷ procedure q 1 (fact 0 (a ∷ []) ∷ []) ∷ []) (X ∷ [])
     (user 1 (var 1 ∷ []) ∷ user 0 (var 1 ∷ []) ∷ [])) Failed (
     codes "logix log 1"

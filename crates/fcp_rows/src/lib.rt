@@ -3,7 +3,7 @@
 
 ghost use Rattle.fcp_rows.specs.Commits.{a_fact_binds_the_goal, a_commit_wakes_the_waiting, a_failed_process_ends_the_run, a_later_pair_sees_the_binding, a_process_is_woken_once};
 ghost use Rattle.fcp_rows.specs.Suspensions.{a_read_only_place_is_not_bound, the_first_waiting_pair_decides, a_read_only_head_waits_for_nothing, a_waiting_set_has_every_place_read};
-ghost use Rattle.fcp_rows.specs.Guards.{otherwise_waits_behind_a_waiting_clause, unknown_holds_before_the_binding, unknown_fails_behind_the_binding, a_comparison_fails, a_comparison_waits_for_its_operand};
+ghost use Rattle.fcp_rows.specs.Guards.{otherwise_waits_after_a_waiting_clause, unknown_holds_before_the_binding, unknown_fails_after_the_binding, a_comparison_fails, a_comparison_waits_for_its_operand};
 ghost use Rattle.fcp_rows.specs.Unifications.{the_occurs_check_fails, the_younger_variable_is_bound, the_writable_variable_is_bound, two_read_only_variables_wait, a_variable_is_itself};
 ghost use Rattle.fcp_rows.specs.Limits.{a_run_ends_at_its_commits, no_commit_is_no_entry, no_move_is_no_entry, a_run_ends_at_its_cells, a_smaller_entry_still_fits, a_hang_lacks_its_cells};
 ghost use Rattle.fcp_rows.specs.Controls.{a_snapshot_is_of_its_moment, a_late_control_is_not_reached, an_abort_comes_before_the_first_move, a_resumed_run_goes_on, a_fail_comes_before_a_due_control};
@@ -30,9 +30,9 @@ pub fn suspensions()
 
 /// Guards: tests that hold, fail and wait.
 pub fn guards()
-    ensures otherwise { otherwise_waits_behind_a_waiting_clause }
+    ensures otherwise { otherwise_waits_after_a_waiting_clause }
     ensures unknown { unknown_holds_before_the_binding }
-    ensures known { unknown_fails_behind_the_binding }
+    ensures known { unknown_fails_after_the_binding }
     ensures fails { a_comparison_fails }
     ensures waits { a_comparison_waits_for_its_operand }
 {}

@@ -15,7 +15,7 @@ use Rattle.fcp_model.specs.declared.loaded.ProcedureName.{ProcedureName}
 use Rattle.fcp_model.specs.ProcedureNames.{same_procedure}
 use Rattle.fcp_model.specs.Programs.{true', user}
 use Rattle.fcp_model.specs.Cells.{term_cells, goal_cells, clause_cells}
-use Rattle.fcp_model.specs.Translation.{term_of, term_step, head_called, user_goal, goal_of, goals_of, clause_of}
+use Rattle.fcp_model.specs.Translation.{term_of, term_step, name_with_arity, user_goal, goal_of, goals_of, clause_of}
 use Rattle.plain_engine.specs.PlainForms.{is_flat, flat_step, are_flat, is_plain_call, are_plain_items, is_empty, is_plain_clause}
 use Rattle.fcp_model.proofs.Folds.{term_induction, fold-Int, fold-Str, fold-Nil, fold-Cons, fold-Tuple, fold-Var, fold-Ro}
 
@@ -45,7 +45,7 @@ user_cells : (hs : List ProcedureName) (name : Sym) (n : ℕ) (ts : List (Term �
     → goal_cells (user_goal hs name n ts) ≡ 4 + n
 user_cells hs name zero ts long free = go name.0
   where
-    go : (k : ℕ) → goal_cells (elim k [ zero ↦ true' | suc j ↦ user (position_or_len (same_procedure (head_called name 0)) hs) ts ]) ≡ 4 + 0
+    go : (k : ℕ) → goal_cells (elim k [ zero ↦ true' | suc j ↦ user (position_or_len (same_procedure (name_with_arity name 0)) hs) ts ]) ≡ 4 + 0
     go zero = refl
     go (suc j) = omega (arith, long, free)
 user_cells hs name (suc n) ts long free = omega (arith, long, free)

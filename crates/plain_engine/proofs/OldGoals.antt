@@ -17,7 +17,7 @@ use Rattle.fcp_model.specs.States as run
 use Rattle.fcp_model.specs.Events.{made_ready}
 use Rattle.fcp_laws.specs.WaitingProcesses.{with_process}
 use Rattle.fcp_model.specs.Ranks.{Mentions}
-use Rattle.fcp_model.specs.Translation.{term_of, term_step, head_called, user_goal, goal_of, goals_of}
+use Rattle.fcp_model.specs.Translation.{term_of, term_step, name_with_arity, user_goal, goal_of, goals_of}
 use Rattle.fcp_model.specs.Goals.{is_true}
 use Rattle.plain_engine.specs.PlainForms.{is_flat, flat_step, is_plain_call}
 use Rattle.plain_engine.specs.CalledItems.{is_called, are_called}
@@ -100,19 +100,19 @@ module _ (hs : List ProcedureName) (n : ℕ) where
   IsOldHere g = IsOldGoal (length hs) n (rename_goal (placed n) g)
 
   user_old : (name : Sym) (k : ℕ) (ts : List (Term ℕ))
-      → (not (is_true name.0 k) && list_any (same_procedure (head_called name k)) hs) ≡ true
+      → (not (is_true name.0 k) && list_any (same_procedure (name_with_arity name k)) hs) ≡ true
       → AreOldTerms n (map (rename (placed n)) ts) → IsOldHere (user_goal hs name k ts)
   user_old name zero ts h i =
-      let parts = and_parts (not (is_true name.0 0)) (list_any (same_procedure (head_called name 0)) hs) h in
-      go name.0 parts.0 (any_found (same_procedure (head_called name 0)) hs parts.1)
+      let parts = and_parts (not (is_true name.0 0)) (list_any (same_procedure (name_with_arity name 0)) hs) h in
+      go name.0 parts.0 (any_found (same_procedure (name_with_arity name 0)) hs parts.1)
     where
-      go : (s : ℕ) → not (is_true s 0) ≡ true → position_or_len (same_procedure (head_called name 0)) hs < length hs
-          → IsOldHere (elim s [ zero ↦ true' | suc j ↦ user (position_or_len (same_procedure (head_called name 0)) hs) ts ])
+      go : (s : ℕ) → not (is_true s 0) ≡ true → position_or_len (same_procedure (name_with_arity name 0)) hs < length hs
+          → IsOldHere (elim s [ zero ↦ true' | suc j ↦ user (position_or_len (same_procedure (name_with_arity name 0)) hs) ts ])
       go zero e f = cc
       go (suc j) e f = (f, i)
   user_old name (suc k) ts h i =
-      let parts = and_parts (not (is_true name.0 (suc k))) (list_any (same_procedure (head_called name (suc k))) hs) h in
-      (any_found (same_procedure (head_called name (suc k))) hs parts.1, i)
+      let parts = and_parts (not (is_true name.0 (suc k))) (list_any (same_procedure (name_with_arity name (suc k))) hs) h in
+      (any_found (same_procedure (name_with_arity name (suc k))) hs parts.1, i)
 
   call_old : (vars : ℕ) (call : Call) → is_plain_call vars call ≡ true → is_called hs call ≡ true → IsOldHere (goal_of hs call)
   call_old vars (User name args) plain called =
