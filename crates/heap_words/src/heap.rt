@@ -55,6 +55,14 @@ impl PlainHeap {
         Ok(PlainHeap { words })
     }
 
+    /// The heap that these words are, by their addresses. It takes no memory.
+    pub fn of_words(words: Vec<u64>) -> PlainHeap
+        requires { IsHeap words.items }
+        ensures { result.words.items ≡ words.items }
+    {
+        PlainHeap { words }
+    }
+
     /// Writes a word. The caller sees to it that the words are a heap again: a piece is written behind its page's top, and
     /// then the top is raised.
     pub fn store(&mut self, addr: u32, word: u64)

@@ -3,6 +3,7 @@
 
 mod cell;
 mod heap;
+mod pieces;
 mod steps;
 #[cfg(test)]
 mod tests;
@@ -12,6 +13,7 @@ mod words;
 
 pub use cell::{Cell, Stand, decode, encode, is_final};
 pub use heap::PlainHeap;
+pub use pieces::{Piece, Seen};
 pub use steps::{ExprStep, TestKind};
 pub use trail::Trail;
 pub use words::Words;
