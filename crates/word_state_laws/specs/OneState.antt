@@ -17,8 +17,10 @@ StandAlike _ _ = ⊥
 -- Two states have the same places, with the same bindings, and the same processes, which stand alike. Their modes, their numbers of
 -- entries and the order of places in waiting sets may differ.
 pub record AreAlike (book : Book) (s t : State) : Type 0 where
+  -- the places and their bindings
   pub places : s.places ≡ t.places
   pub bound : (j : Place) (a : ℕ) → PlaceAt book j a → find s.bound (made j) ≡ find t.bound (made j)
+  -- the processes: names, goals, and how they stand
   pub names : (p : ℕ) (x y : Process) → ProcessAt book s p x → ProcessAt book t p y → x.name ≡ y.name
   pub goals : (p : ℕ) (x y : Process) → ProcessAt book s p x → ProcessAt book t p y → x.goal ≡ y.goal
   pub statuses : (p : ℕ) (x y : Process) → ProcessAt book s p x → ProcessAt book t p y → StandAlike x.status y.status

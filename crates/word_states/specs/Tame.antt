@@ -23,8 +23,11 @@ Edge w a b = (x : ℕ) × (c : Cell) × (w a ≡ Some x) × (is_final_word x ≡
 
 -- The walked words: they were seen, all that is reached from there was walked too, and ranks fall.
 pub record IsWalked (seen : Words) (walked : ℕ → Bool) (rank : ℕ → ℕ) (most : ℕ) : Type 0 where
+  -- a word was seen at each walked address
   pub met : (a : ℕ) → walked a ≡ true → Has seen a
+  -- a walk goes on to walked addresses alone, of lower rank
   pub falls : (a b : ℕ) → walked a ≡ true → Edge seen a b → (walked b ≡ true) × (rank b < rank a)
+  -- no rank is above
   pub low : (a : ℕ) → walked a ≡ true → rank a < most
 
 -- words under a try's bindings, with its pieces
