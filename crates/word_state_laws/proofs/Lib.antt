@@ -14,3 +14,4 @@ pub mod HangLaying
 pub mod Going
 pub mod Forming
 pub mod TriedMoves
+pub mod Alike
