@@ -7,3 +7,4 @@ pub mod Reading
 pub mod Compiling
 pub mod Correct
 pub mod Sound
+pub mod Listing
