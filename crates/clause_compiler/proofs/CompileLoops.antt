@@ -19,10 +19,13 @@ use Rattle.machine_code.specs.Compiling.{entrance_of, tables}
 use Rattle.machine_code.specs.Correct.{facts_in_code, facts_in_source, MeansSource, NamesSource}
 use Rattle.machine_code.specs.Each.{Each}
 use Rattle.machine_code.specs.Sound.{IsFormed, NamesBelow, StepsBelow, IsSound}
+use Rattle.machine_code.specs.Fresh.{no_tops, IsFresh}
+use Rattle.machine_code.specs.Machine.{Compiled}
+use Rattle.clause_compiler.proofs.FreshClauses.{program_fresh}
 use Rattle.head_code.proofs.PutLoops.{Remains, all_remains, remains_as, fewer_remain, none_remains}
 use Rattle.clause_compiler.proofs.ProcedureLoops.{slice_get_mapped}
 use Rattle.machine_code.specs.Targets.{AllLeadBehind}
-use Rattle.clause_compiler.proofs.ModulePrograms.{module_means}
+use Rattle.clause_compiler.proofs.ModulePrograms.{module_source, module_means}
 use Rattle.clause_compiler.proofs.Targets.{procedures_behind}
 use Rattle.clause_compiler.proofs.Formed.{procedures_formed}
 
@@ -122,4 +125,8 @@ module _ (m : Module) (a b : Emitter) (es : List procedure.Procedure) (n : ℕ) 
     formed = subst (Each IsFormed) (sym ops_same) (procedures_formed (program_of m) 0);
     slots = is;
     step_slots = ss;
+    fresh =
+        subst (λ (c : Compiled). Each (λ e. IsFresh c.ops e.first no_tops 0) c.procedures)
+        (λ j. record { ops = sym ops_same j; procedures = sym begins_same j })
+        (program_fresh (program_of m) (module_source m k.few) (omega (arith, size, k.long)));
   }

@@ -1,6 +1,7 @@
 pub mod Appended
 pub mod Each
 pub mod Follows
+pub mod Fresh
 pub mod Held
 pub mod Opening
 pub mod Same
