@@ -1,0 +1,5 @@
+pub mod Emitting
+pub mod TermCode
+pub mod HeadCode
+pub mod OpenCode
+pub mod SourceTerms

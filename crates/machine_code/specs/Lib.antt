@@ -1,0 +1,11 @@
+pub mod Each
+pub mod Slots
+pub mod Instructions
+pub mod Machine
+pub mod Targets
+pub mod Reading
+pub mod Compiling
+pub mod Correct
+pub mod Sound
+pub mod Fresh
+pub mod Listing
