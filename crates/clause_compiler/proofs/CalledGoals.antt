@@ -12,14 +12,14 @@ use Rattle.fcp_model.specs.Tests.{Kind, kind}
 use Rattle.fcp_model.specs.Programs.{user, true'}
 use Rattle.std.proofs.lemmas.List.{length-map}
 use Rattle.fcp_model.specs.Translation.{name_with_arity, term_of, terms_of, kinds, reserved_test, user_goal}
-use Rattle.clause_compiler.specs.declared.emitter.Emitter.{Emitter}
-use Rattle.clause_compiler.specs.Slots.{push}
-use Rattle.clause_compiler.specs.Instructions as ins
-use Rattle.clause_compiler.specs.Instructions.{Op, Spawn}
-use Rattle.clause_compiler.specs.TermCode.{put, puts}
+use Rattle.head_code.specs.declared.emitter.Emitter.{Emitter}
+use Rattle.machine_code.specs.Slots.{push}
+use Rattle.machine_code.specs.Instructions as ins
+use Rattle.machine_code.specs.Instructions.{Op, Spawn}
+use Rattle.head_code.specs.TermCode.{put, puts}
 use Rattle.clause_compiler.specs.ClauseCode.{kind_test, item_code, goal_code}
-use Rattle.clause_compiler.specs.Reading.{Emits}
-use Rattle.clause_compiler.proofs.Emitting.{emits_on}
+use Rattle.head_code.specs.Emitting.{Emits}
+use Rattle.head_code.proofs.Emitting.{emits_on}
 use Rattle.clause_compiler.proofs.ModulePrograms.{position_below}
 
 -- the position of a head that is found, and of one that is not

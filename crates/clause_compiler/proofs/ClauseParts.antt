@@ -8,14 +8,14 @@ use Rattle.fcp_model.specs.declared.term.Term as source
 use Rattle.fcp_model.specs.Translation.{term_of, test_of, goals_of, clause_of}
 use Rattle.fcp_model.specs.declared.source.Item.{Item}
 use Rattle.std.specs.List.{filter_map}
-use Rattle.clause_compiler.specs.declared.instr.Instr.TheVariants as instr
-use Rattle.clause_compiler.specs.declared.emitter.Emitter.{Emitter}
-use Rattle.clause_compiler.specs.Instructions.{Op, Try, Commit}
-use Rattle.clause_compiler.specs.HeadCode.{head_code}
+use Rattle.machine_code.specs.declared.instr.Instr.TheVariants as instr
+use Rattle.head_code.specs.declared.emitter.Emitter.{Emitter}
+use Rattle.machine_code.specs.Instructions.{Try, Commit}
+use Rattle.head_code.specs.HeadCode.{head_code}
 use Rattle.clause_compiler.specs.ClauseCode.{guard_code, body_code, inner_code, clause_code}
-use Rattle.clause_compiler.specs.Reading.{Emits}
-use Rattle.clause_compiler.proofs.Emitting.{emits_on}
-use Rattle.clause_compiler.proofs.Patches.{patched}
+use Rattle.head_code.specs.Emitting.{Emits}
+use Rattle.head_code.proofs.Emitting.{emits_on}
+use Rattle.head_code.proofs.Patches.{patched}
 
 -- a clause was emitted
 pub clause_emitted : (hs : List ProcedureName) (a b c d e f g : Emitter) (cl : read.Clause) (k start next base : ℕ)

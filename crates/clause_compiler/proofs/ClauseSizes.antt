@@ -1,16 +1,18 @@
 -- Sizes of clauses that are left.
-use Rattle.std.proofs.Common.{◌≡◌, ℕ, zero, suc, ◌+◌, ◌<◌, ◌≤◌, List, [], ◌∷◌, ◌++◌, length, map, filter, drop, Option, Some, None, refl, sym, ap, ◌∙◌, subst, append_assoc, append-nil, drop_of_length-le, arith}
-use Rattle.std.specs.Prelude.{get_or, slice_get, slice_index_or, option_map}
+use Rattle.std.proofs.Common.{◌≡◌, ℕ, suc, ◌+◌, ◌<◌, ◌≤◌, List, [], ◌∷◌, ◌++◌, length, map, drop, Some, sym, ap, ◌∙◌, subst, append_assoc, append-nil, drop_of_length-le, arith}
+use Rattle.std.specs.Prelude.{get_or, slice_get, slice_index_or}
 use Rattle.std.proofs.Math.Seq.{drop-cons}
 use Rattle.std.proofs.lemmas.Option.{slice_get_within, get_or_from_slice_get}
 use Rattle.fcp_model.specs.declared.source.Clause as read
 use Rattle.fcp_model.specs.declared.source.Module.{Module}
 use Rattle.fcp_model.specs.declared.loaded.ProcedureName.{ProcedureName}
-use Rattle.fcp_model.specs.ProcedureNames.{procedure_names, procedure_name, same_procedure, positions_from, positions_in}
-use Rattle.fcp_model.specs.Translation.{clause_of, procedure_of, program_of}
-use Rattle.clause_compiler.specs.declared.sizes.ClauseSize.{ClauseSize}
-use Rattle.clause_compiler.specs.ClauseCode.{clause_size, clauses_in}
-use Rattle.clause_compiler.proofs.ProcedureLoops.{Picks, picked, either_default}
+use Rattle.fcp_model.specs.ProcedureNames.{procedure_names, positions_in}
+use Rattle.fcp_model.specs.Translation.{clause_of, program_of}
+use Rattle.machine_code.specs.declared.code.ClauseSize.{ClauseSize}
+use Rattle.machine_code.specs.Correct.{clause_size}
+use Rattle.clause_compiler.specs.ClauseCode.{clauses_in}
+use Rattle.clause_compiler.proofs.ProcedureLoops.{Picks, picked}
+use Rattle.machine_code.proofs.Each.{either_default}
 
 -- the sizes of a module's clauses, as they are read
 abbrev pub read_sizes : Module → List read.Clause → List ClauseSize

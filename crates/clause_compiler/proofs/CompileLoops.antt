@@ -5,22 +5,23 @@ use Rattle.std.proofs.Math.Seq.{drop-cons}
 use Rattle.std.proofs.lemmas.List.{map_push, length-map}
 use Rattle.std.proofs.lemmas.Option.{slice_get_within, get_or_from_slice_get}
 use Rattle.fcp_model.specs.declared.goal.TheConstants.{TRUE_PROCEDURE}
-use Rattle.fcp_model.specs.declared.loaded.ProcedureName.{ProcedureName}
 use Rattle.fcp_model.specs.declared.source.Module.{Module}
 use Rattle.fcp_model.specs.ProcedureNames.{procedure_names}
 use Rattle.fcp_model.specs.Programs.{Clause, Program}
 use Rattle.fcp_model.specs.Translation.{procedure_of, program_of}
-use Rattle.clause_compiler.specs.declared.emitter.Emitter.{Emitter}
-use Rattle.clause_compiler.specs.declared.code.Procedure as procedure
-use Rattle.clause_compiler.specs.ClauseCode.{nowhere, clause_size, clauses_code, clauses_in, procedures_code, entrances}
-use Rattle.clause_compiler.specs.Reading.{op_of, IsFine, ops_of, Emits}
-use Rattle.clause_compiler.specs.Compiling.{entrance_of, tables}
-use Rattle.clause_compiler.specs.Correct.{facts_in_code, facts_in_source, MeansSource, NamesSource}
-use Rattle.clause_compiler.specs.Sources.{Each}
-use Rattle.clause_compiler.specs.Sound.{IsFormed, NamesBelow, StepsBelow, IsSound}
-use Rattle.clause_compiler.proofs.PutLoops.{Remains, all_remains, remains_as, fewer_remain, none_remains}
+use Rattle.head_code.specs.declared.emitter.Emitter.{Emitter}
+use Rattle.machine_code.specs.declared.code.Procedure as procedure
+use Rattle.clause_compiler.specs.ClauseCode.{nowhere, clauses_code, clauses_in, procedures_code, entrances}
+use Rattle.machine_code.specs.Correct.{clause_size}
+use Rattle.machine_code.specs.Reading.{op_of}
+use Rattle.head_code.specs.Emitting.{IsFine, ops_of, Emits}
+use Rattle.machine_code.specs.Compiling.{entrance_of, tables}
+use Rattle.machine_code.specs.Correct.{facts_in_code, facts_in_source, MeansSource, NamesSource}
+use Rattle.machine_code.specs.Each.{Each}
+use Rattle.machine_code.specs.Sound.{IsFormed, NamesBelow, StepsBelow, IsSound}
+use Rattle.head_code.proofs.PutLoops.{Remains, all_remains, remains_as, fewer_remain, none_remains}
 use Rattle.clause_compiler.proofs.ProcedureLoops.{slice_get_mapped}
-use Rattle.clause_compiler.specs.Targets.{AllLeadBehind}
+use Rattle.machine_code.specs.Targets.{AllLeadBehind}
 use Rattle.clause_compiler.proofs.ModulePrograms.{module_means}
 use Rattle.clause_compiler.proofs.Targets.{procedures_behind}
 use Rattle.clause_compiler.proofs.Formed.{procedures_formed}

@@ -8,16 +8,17 @@ use Rattle.fcp_model.specs.HeadPairs.{mark}
 use Rattle.fcp_model.specs.Tests.{Kind, is_integer, is_string, is_constant, is_list, is_tuple, is_known, is_unknown, Test, always, otherwise, kind, same, not_same, ordered}
 use Rattle.fcp_model.specs.Programs.{Goal, user, true', unifies, assigns, Clause, Program}
 use Rattle.fcp_model.specs.Translation.{terms_of}
-use Rattle.clause_compiler.specs.Slots.{Step, push, apply}
-use Rattle.clause_compiler.specs.Instructions as ins
-use Rattle.clause_compiler.specs.Instructions.{Op}
-use Rattle.clause_compiler.specs.Machine.{count}
-use Rattle.clause_compiler.specs.TermCode.{width, put, puts, put_expr, leaves, put_leaves, steps}
-use Rattle.clause_compiler.specs.HeadCode.{Stock, unmade, made, left_stock, right_stock, part_stock, next_stock, ask, joined, between, get, gets, is_stocked, argument_code, head_code}
+use Rattle.machine_code.specs.Slots.{Step, push, apply}
+use Rattle.machine_code.specs.Instructions as ins
+use Rattle.machine_code.specs.Instructions.{Op}
+use Rattle.machine_code.specs.Machine.{count}
+use Rattle.head_code.specs.TermCode.{width, put, puts}
+use Rattle.clause_compiler.specs.ExprCode.{put_expr, leaves, put_leaves, steps}
+use Rattle.head_code.specs.HeadCode.{Stock, unmade, made, left_stock, right_stock, part_stock, next_stock, ask, joined, between, get, gets, is_stocked, argument_code, head_code}
 use Rattle.clause_compiler.specs.ClauseCode.{kind_test, order_test, test_code, guard_code, goal_code, body_code, clause_code, clauses_code, procedures_code}
-use Rattle.clause_compiler.specs.Sources.{Each}
-use Rattle.clause_compiler.specs.Sound.{SlotExpr, in_slot, operation, postfix, IsPostfix, HasSides, IsFormed}
-use Rattle.clause_compiler.proofs.Emitting.{each_append}
+use Rattle.machine_code.specs.Each.{Each}
+use Rattle.machine_code.specs.Sound.{SlotExpr, in_slot, operation, postfix, IsPostfix, HasSides, IsFormed}
+use Rattle.machine_code.proofs.Each.{each_append}
 
 abbrev AreFormed : List Op → Type 0
 AreFormed = Each IsFormed

@@ -10,15 +10,16 @@ use Rattle.fcp_model.specs.Terms.{Term}
 use Rattle.fcp_model.specs.Expressions.{Expr}
 use Rattle.fcp_model.specs.Tests.{Test}
 use Rattle.fcp_model.specs.Translation.{test_of, goal_of, goals_of}
-use Rattle.clause_compiler.specs.declared.emitter.Emitter.{Emitter}
-use Rattle.clause_compiler.specs.Slots.{Step, push}
-use Rattle.clause_compiler.specs.Instructions as ins
-use Rattle.clause_compiler.specs.Instructions.{Op, Spawn}
-use Rattle.clause_compiler.specs.TermCode.{put, put_expr}
+use Rattle.head_code.specs.declared.emitter.Emitter.{Emitter}
+use Rattle.machine_code.specs.Slots.{Step, push}
+use Rattle.machine_code.specs.Instructions as ins
+use Rattle.machine_code.specs.Instructions.{Op, Spawn}
+use Rattle.head_code.specs.TermCode.{put}
+use Rattle.clause_compiler.specs.ExprCode.{put_expr}
 use Rattle.clause_compiler.specs.ClauseCode.{item_code, pair_test, guard_code, goal_code, body_code}
-use Rattle.clause_compiler.specs.Reading.{Emits}
-use Rattle.clause_compiler.proofs.Emitting.{emits_on}
-use Rattle.clause_compiler.proofs.PutLoops.{Remains, remains_as, fewer_remain}
+use Rattle.head_code.specs.Emitting.{Emits}
+use Rattle.head_code.proofs.Emitting.{emits_on}
+use Rattle.head_code.proofs.PutLoops.{Remains, remains_as, fewer_remain}
 
 -- two terms were put, and an instruction after them
 pub two_put : (a b c d : Emitter) (n r g : ℕ) (t u : Term ℕ) (o : Op) → r ≡ n + 1 → g ≡ n + 2 → Emits a b (put n g t)

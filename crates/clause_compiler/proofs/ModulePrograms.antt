@@ -25,8 +25,9 @@ use Rattle.fcp_model.specs.Translation.{term_step, term_of, terms_of, expr_step,
 use Rattle.fcp_model.proofs.Folds as folds
 use Rattle.fcp_model.proofs.Folds.{fold-Int, fold-Str, fold-Nil, fold-Cons, fold-Tuple, fold-Var, fold-Ro, term_induction, fold-Leaf, fold-Op, expr_induction}
 use Rattle.clause_compiler.specs.ClauseCode.{nowhere, procedures_code, code_of}
-use Rattle.clause_compiler.specs.Sources.{IsSourceTerm, AreSourceTerms, Each, IsSourceExpr, IsSourceTest, IsSourceGoal, IsSourceClause, IsSourceProgram}
-use Rattle.clause_compiler.specs.Correct.{MeansSource}
+use Rattle.clause_compiler.specs.Sources.{IsSourceTerm, AreSourceTerms, IsSourceExpr, IsSourceTest, IsSourceGoal, IsSourceClause, IsSourceProgram}
+use Rattle.machine_code.specs.Each.{Each}
+use Rattle.machine_code.specs.Correct.{MeansSource}
 use Rattle.clause_compiler.proofs.Whole.{means_source}
 
 parts_source : (ts : List source.Term) → folds.Each (λ t. IsSourceTerm (term_of t)) ts → AreSourceTerms (terms_of (map term_of ts))

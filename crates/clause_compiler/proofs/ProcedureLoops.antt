@@ -9,11 +9,12 @@ use Rattle.fcp_model.specs.declared.source.Module.{Module}
 use Rattle.fcp_model.specs.ProcedureNames.{procedure_names, procedure_name, same_procedure, put_if, positions_from, positions_in}
 use Rattle.fcp_model.specs.Programs.{Clause}
 use Rattle.fcp_model.specs.Translation.{clause_of, clauses_called, procedure_of, program_of}
-use Rattle.clause_compiler.specs.declared.emitter.Emitter.{Emitter}
-use Rattle.clause_compiler.specs.Instructions.{Op}
+use Rattle.head_code.specs.declared.emitter.Emitter.{Emitter}
+use Rattle.machine_code.specs.Instructions.{Op}
 use Rattle.clause_compiler.specs.ClauseCode.{clause_code, clauses_code, clauses_in}
-use Rattle.clause_compiler.specs.Reading.{Emits}
-use Rattle.clause_compiler.proofs.PutLoops.{Remains, all_remains, remains_as, fewer_remain, none_remains}
+use Rattle.head_code.specs.Emitting.{Emits}
+use Rattle.machine_code.proofs.Each.{either_default}
+use Rattle.head_code.proofs.PutLoops.{Remains, all_remains, remains_as, fewer_remain, none_remains}
 
 -- the clauses at some positions
 abbrev pub Picks : List read.Clause → List ℕ → List read.Clause → Type 0
@@ -135,11 +136,6 @@ clauses_end m a b c whole k idx ps h bc (ds, picks, rem) =
         none_remains a c whole (fewer_remain a b c whole (clauses_code (length b.instrs.items) k []) []
         (remains_as a b whole _ _ (sym (append-nil (clauses_code (length b.instrs.items) k []))) rem) bc)
     go (d ∷ ds) e rem = absurd e
-
--- an element by its position, whatever stands for one that is not there
-pub either_default : {A : Type 0} (xs : List A) (i : ℕ) (d e : A) → i < length xs → get_or xs i d ≡ get_or xs i e
-either_default xs i d e h =
-    let z : Some (get_or xs i d) ≡ Some (get_or xs i e) = sym (slice_get-get_or xs i d h) ∙ slice_get-get_or xs i e h in cc
 
 pub place_bound : (m : Module) (a b : Emitter) (whole : List Op) (k idx : ℕ) (ps : List ℕ) (cs : List read.Clause) → idx < length ps
     → cs ≡ m.clauses → ClausesLeft m a b whole k (drop idx ps) → slice_index_or ps idx 0 < length cs

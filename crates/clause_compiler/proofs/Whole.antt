@@ -8,12 +8,14 @@ use Rattle.fcp_model.specs.Programs.{Goal, user, true', unifies, assigns, Clause
 use Rattle.fcp_model.specs.Trials.{Tried, succeeds, try_fails, try_waits, attempt}
 use Rattle.fcp_model.specs.Decisions.{Decision, commits, decides_fail, waits_on, choose_on, choose, decide, Decides}
 use Rattle.fcp_model.specs.Cells.{clause_used}
-use Rattle.clause_compiler.specs.Instructions.{Op}
-use Rattle.clause_compiler.specs.Machine.{Meaning, Entrance, given, untried, plain_fail, enter, childless, means, Means, follow}
-use Rattle.clause_compiler.specs.ClauseCode.{nowhere, clause_size, clauses_code, procedures_code, entrances, code_of}
-use Rattle.clause_compiler.specs.Sources.{Each, IsSourceClause, IsSourceProgram}
-use Rattle.clause_compiler.specs.Correct.{body_used, children_by, decision_of, MeansSource}
-use Rattle.clause_compiler.proofs.Standing.{HasAt, has_front, has_back, has_all}
+use Rattle.machine_code.specs.Instructions.{Op}
+use Rattle.machine_code.specs.Machine.{Meaning, Entrance, given, untried, plain_fail, enter, childless, means, Means, follow}
+use Rattle.clause_compiler.specs.ClauseCode.{nowhere, clauses_code, procedures_code, entrances, code_of}
+use Rattle.machine_code.specs.Correct.{clause_size}
+use Rattle.machine_code.specs.Each.{Each}
+use Rattle.clause_compiler.specs.Sources.{IsSourceClause, IsSourceProgram}
+use Rattle.machine_code.specs.Correct.{body_used, children_by, decision_of, MeansSource}
+use Rattle.machine_code.proofs.Standing.{HasAt, has_front, has_back, has_all}
 use Rattle.clause_compiler.proofs.Trying.{behind_try, chosen, clauses_do}
 
 -- the children of a decision by the clauses from the k-th on

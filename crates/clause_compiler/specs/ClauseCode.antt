@@ -14,14 +14,14 @@ use Rattle.fcp_model.specs.declared.source.Clause as read
 use Rattle.fcp_model.specs.declared.source.Module.{Module}
 use Rattle.fcp_model.specs.ProcedureNames.{procedure_names}
 use Rattle.fcp_model.specs.Translation.{term_of, terms_of, user_goal, clause_of}
-use Rattle.fcp_model.specs.Cells.{clause_cells}
-use Rattle.clause_compiler.specs.declared.sizes.ClauseSize.{ClauseSize}
-use Rattle.clause_compiler.specs.Slots.{push}
-use Rattle.clause_compiler.specs.Instructions as ins
-use Rattle.clause_compiler.specs.Instructions.{Op, Try, Jump, Otherwise, Spawn, Commit}
-use Rattle.clause_compiler.specs.Machine.{Entrance, Compiled}
-use Rattle.clause_compiler.specs.TermCode.{put, puts, put_expr, leaves, put_leaves, steps}
-use Rattle.clause_compiler.specs.HeadCode.{joined, head_code}
+use Rattle.machine_code.specs.Slots.{push}
+use Rattle.machine_code.specs.Instructions as ins
+use Rattle.machine_code.specs.Instructions.{Op, Try, Jump, Otherwise, Spawn, Commit}
+use Rattle.machine_code.specs.Machine.{Entrance, Compiled}
+use Rattle.machine_code.specs.Correct.{clause_size}
+use Rattle.head_code.specs.TermCode.{put, puts}
+use Rattle.clause_compiler.specs.ExprCode.{put_expr, leaves, put_leaves, steps}
+use Rattle.head_code.specs.HeadCode.{joined, head_code}
 
 -- the test of one operand
 abbrev pub kind_test : Kind → TestKind
@@ -114,10 +114,6 @@ clauses_in m p = elim (slice_get m p) [ None ↦ [] | Some d ↦ d.clauses ]
 abbrev pub procedures_code : ℕ → Program → List Op
 procedures_code at [] = []
 procedures_code at (d ∷ ds) = joined at (clauses_code at 1 d.clauses) (λ p. procedures_code p ds)
-
--- the numbers of a clause's variables and of the cells of a commit by it
-abbrev pub clause_size : Clause → ClauseSize
-clause_size c = record { vars = c.vars; cells = clause_cells c }
 
 -- where each procedure begins, with its name and number of arguments and the sizes of its clauses
 abbrev pub entrances : ℕ → Program → List Entrance

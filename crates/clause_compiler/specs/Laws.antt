@@ -7,7 +7,7 @@ use Rattle.fcp_model.specs.Programs.{Program}
 use Rattle.fcp_model.specs.Translation.{program_of}
 use Rattle.clause_compiler.specs.ClauseCode.{nowhere, procedures_code, code_of}
 use Rattle.clause_compiler.specs.Sources.{IsSourceProgram}
-use Rattle.clause_compiler.specs.Correct.{MeansSource}
+use Rattle.machine_code.specs.Correct.{MeansSource}
 
 -- the code of a program, where it has a position for each instruction, means what the program's clauses decide
 abbrev pub code_means_source : Type 0

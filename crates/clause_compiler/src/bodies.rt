@@ -1,19 +1,18 @@
 //! Code for the items of a body.
 ghost use Rattle.std.specs.Prelude.{◌≡◌, ◌+◌, ◌&&◌, nat_eq, [], ◌∷◌, length, map, IfOk, OnOk};
 ghost use Rattle.std.specs.List.{position_or_len};
-ghost use Rattle.clause_compiler.specs.Instructions.{Spawn};
+ghost use Rattle.machine_code.specs.Instructions.{Spawn};
 ghost use Rattle.fcp_model.specs.ProcedureNames.{procedure_names, same_procedure};
 ghost use Rattle.fcp_model.specs.Translation.{name_with_arity, term_of, goal_of, goals_of};
-ghost use Rattle.clause_compiler.specs.Reading.{Emits};
+ghost use Rattle.head_code.specs.Emitting.{Emits};
 ghost use Rattle.clause_compiler.specs.ClauseCode as spec;
 
-use crate::Instr;
-use crate::emitter::{Emitter, up};
 use crate::expressions::put_expr;
-use crate::terms::{put, put_parts};
 use fcp_model::{
     ASSIGN_PROCEDURE, Call, Item, Loaded, NoMemory, Sym, TRUE_PROCEDURE, Term, UNIFY_PROCEDURE,
 };
+use head_code::{Emitter, put, put_parts, up};
+use machine_code::Instr;
 use std::alloc::Global;
 
 /// A call of a procedure, of one past the last where the module has none of that name; `true` with no argument is built in.

@@ -1,14 +1,13 @@
 //! Code for a clause.
 ghost use Rattle.std.specs.Prelude.{OnOk};
 ghost use Rattle.clause_compiler.specs.ClauseCode.{clause_code, clause_in};
-ghost use Rattle.clause_compiler.specs.Reading.{Emits, after};
+ghost use Rattle.head_code.specs.Emitting.{Emits, after};
 
-use crate::Instr;
-use crate::arguments::head;
 use crate::bodies::body;
-use crate::emitter::Emitter;
 use crate::guards::guard;
 use fcp_model::{Clause, Loaded, NoMemory};
+use head_code::{Emitter, head};
+use machine_code::Instr;
 use std::alloc::Global;
 
 /// The code of a procedure's clause of a number: its head, its guard and its body, with the goal's arguments in the first

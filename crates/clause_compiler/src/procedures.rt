@@ -3,12 +3,12 @@ ghost use Rattle.std.specs.Prelude.{length, ◌<◌, OnOk};
 ghost use Rattle.fcp_model.specs.ProcedureNames.{procedure_names};
 ghost use Rattle.fcp_model.specs.Translation.{program_of};
 ghost use Rattle.clause_compiler.specs.ClauseCode.{clauses_code, clauses_in};
-ghost use Rattle.clause_compiler.specs.Reading.{Emits, after};
+ghost use Rattle.head_code.specs.Emitting.{Emits, after};
 
-use crate::Instr;
 use crate::clauses::clause_code;
-use crate::emitter::{Emitter, up};
 use fcp_model::{Loaded, NoMemory};
+use head_code::{Emitter, up};
+use machine_code::Instr;
 use std::alloc::Global;
 
 /// A position at which no instruction stands.

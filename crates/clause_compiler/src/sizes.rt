@@ -4,19 +4,14 @@ ghost use Rattle.fcp_model.specs.declared.loaded.ProcedureName.{ProcedureName};
 ghost use Rattle.fcp_model.specs.ProcedureNames.{procedure_names};
 ghost use Rattle.fcp_model.specs.Translation.{term_of, expr_of, goal_of, goals_of, clause_of, program_of};
 ghost use Rattle.fcp_model.specs.Cells.{term_cells, terms_cells, expr_cells, goal_cells};
-ghost use Rattle.clause_compiler.specs.TermCode.{parts_of};
-ghost use Rattle.clause_compiler.specs.ClauseCode.{clause_size, clauses_in};
+ghost use Rattle.head_code.specs.TermCode.{parts_of};
+ghost use Rattle.machine_code.specs.Correct.{clause_size};
+ghost use Rattle.clause_compiler.specs.ClauseCode.{clauses_in};
 
-use crate::emitter::up;
 use fcp_model::{Call, Clause, Expr, Item, Loaded, NoMemory, Term};
+use head_code::up;
+use machine_code::ClauseSize;
 use std::alloc::Global;
-
-/// The number of a clause's variables, and the cells of a commit by it.
-#[derive(Clone, Copy, Debug, PartialEq, Eq)]
-pub struct ClauseSize {
-    pub vars: u8,
-    pub cells: u32,
-}
 
 /// The cells of a term. A list's rest is walked in a loop, since a list may be long; calls nest as deep as brackets.
 #[cycle(cells)]

@@ -1,6 +1,7 @@
 use Rattle.std.proofs.Common.{map, drop}
 use Rattle.fcp_model.specs.Translation.{program_of}
-use Rattle.clause_compiler.specs.ClauseCode.{clause_size, clauses_in}
+use Rattle.machine_code.specs.Correct.{clause_size}
+use Rattle.clause_compiler.specs.ClauseCode.{clauses_in}
 use Rattle.clause_compiler.proofs.ClauseSizes.{SizesLeft}
 use Rattle.clause_compiler.proofs.sizes.clause_sizes.Given as goal
 

@@ -1,6 +1,0 @@
-use Rattle.std.proofs.Common.{rules}
-use Rattle.clause_compiler.proofs.ArgumentLoops.{small_argument}
-use Rattle.clause_compiler.proofs.arguments.argument.Goals as goal
-
-pub returns-clause-code : goal.returns-clause-code
-returns-clause-code c = small_argument _ _ _ _ _ _ (search rules) c.in_ok-last.ensures.code

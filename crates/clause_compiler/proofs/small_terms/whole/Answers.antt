@@ -1,6 +1,0 @@
-use Rattle.fcp_model.specs.Translation.{term_of}
-use Rattle.clause_compiler.proofs.SmallLoops.{whole_asked}
-use Rattle.clause_compiler.proofs.small_terms.whole.Goals as goal
-
-pub returns : goal.returns
-returns c = whole_asked _ _ _ _ _ _ (term_of c.args.term.now) c.in_ok-up.ensures c.in_ok-put.ensures.code c.in_ok-emit.ensures

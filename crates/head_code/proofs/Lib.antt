@@ -1,0 +1,9 @@
+pub mod ArgumentLoops
+pub mod Emitting
+pub mod Getting
+pub mod OpenLoops
+pub mod Patches
+pub mod PutLoops
+pub mod Putting
+pub mod Slots
+pub mod SmallLoops

@@ -1,0 +1,4 @@
+pub mod Emitting
+pub mod TermCode
+pub mod HeadCode
+pub mod OpenCode

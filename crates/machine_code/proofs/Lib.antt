@@ -1,0 +1,9 @@
+pub mod Appended
+pub mod Each
+pub mod Follows
+pub mod Held
+pub mod Opening
+pub mod Same
+pub mod SlotBounds
+pub mod Standing
+pub mod Tables

@@ -1,0 +1,9 @@
+pub mod Each
+pub mod Slots
+pub mod Instructions
+pub mod Machine
+pub mod Targets
+pub mod Reading
+pub mod Compiling
+pub mod Correct
+pub mod Sound
