@@ -5,6 +5,7 @@ pub mod Standing
 pub mod Pieces
 pub mod Led
 pub mod Tame
+pub mod Formed
 pub mod Trials
 pub mod Waking
 pub mod Layouts

@@ -8,23 +8,14 @@ use Rattle.fcp_model.specs.Decisions.{commits, decides_fail, waits_on, Decides}
 use Rattle.fcp_model.specs.Reads.{BindsPlaces}
 use Rattle.fcp_model.specs.Cells.{clause_used}
 use Rattle.fcp_model.specs.Events.{vars_of, body_of}
-use Rattle.heap_words.specs.Cells.{decoded}
-use Rattle.heap_words.specs.Refers.{Refers, teller, RefersBy}
 use Rattle.heap_words.specs.Trails.{WordList, word_at}
-use Rattle.heap_words.specs.declared.cell.Cell.{Cell}
-use Rattle.heap_words.specs.declared.cell.Cell.TheVariants.{Raw}
 use Rattle.word_states.specs.Words.{Words, Among, AreApart, IsIn, AreDistinct}
 use Rattle.word_states.specs.Denoting.{Addresses, Listed, Denotes, GoalSays}
 use Rattle.word_states.specs.Standing.{PlacesStand, FreshSays}
 use Rattle.word_states.specs.Pieces.{rows, place_words, process_words, numbered, with_own, with_variables, ChildrenSay}
 use Rattle.word_states.specs.Led.{AreLed, ReadsPlace}
 use Rattle.word_states.specs.Tame.{IsTame}
-
--- a word of the store refers to words of the store alone
-pub record IsOld (w : Words) (x : ℕ) : Type 0 where
-  pub refers : (b : ℕ) (c : Cell) → decoded x ≡ Some c → Refers c b → b < 4000000000
-  pub refers_by : (t y n b : ℕ) (c : Cell) → decoded x ≡ Some c → teller c ≡ Some t → w t ≡ Some y → decoded y ≡ Some (Raw n)
-      → RefersBy n c b → b < 4000000000
+use Rattle.word_states.specs.Formed.{IsOld}
 
 -- The words have those that were read, they stand for bindings, and the process at p has the goal.
 pub record IsTried (read : WordList) (p : ℕ) (w : Words) (vs : Addresses) (bound : Bindings) (g : Goal Variable) : Type 0 where

@@ -1,0 +1,13 @@
+pub mod Moving
+pub mod LaidPieces
+pub mod NewNames
+pub mod Settling
+pub mod Hanging
+pub mod Committing
+pub mod Waking
+pub mod LaidWords
+pub mod LaidPlaces
+pub mod LaidChildren
+pub mod CommitPlans
+pub mod HangLaying
+pub mod Going

@@ -1,0 +1,2 @@
+//! What an entry does to words that stand for a state.
+#![tactic(auto)]
