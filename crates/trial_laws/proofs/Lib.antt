@@ -1,0 +1,11 @@
+pub mod Pieces
+pub mod Growing
+pub mod Slots
+pub mod TriedPlaces
+pub mod PutLaws
+pub mod TryLaws
+pub mod FirstLaws
+pub mod Settling
+pub mod Counting
+pub mod WaitLaws
+pub mod EndLaws
