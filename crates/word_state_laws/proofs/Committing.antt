@@ -6,7 +6,7 @@ use Rattle.std.proofs.lemmas.Bool.{cases_Bool, cond-true, cond-false, ne_eqb}
 use Rattle.std.proofs.lemmas.Option.{same_Some}
 use Rattle.fcp_model.specs.declared.run.Place.{Place}
 use Rattle.fcp_model.specs.declared.run.Proc.{Proc}
-use Rattle.fcp_model.specs.Places.{Variable, made, place, placed, is_same_process, is_listed}
+use Rattle.fcp_model.specs.Places.{own, Variable, made, place, placed, is_same_process, is_listed}
 use Rattle.fcp_model.specs.Terms.{Term, Bindings, find, settle, rename}
 use Rattle.fcp_model.specs.Programs.{Clause}
 use Rattle.fcp_model.specs.States.{ready, waiting, finished, Process, State, count_up}
@@ -26,7 +26,7 @@ use Rattle.word_states.specs.Effects.{CommitEffect}
 use Rattle.word_states.proofs.Lists.{listed_left, listed_either}
 use Rattle.word_states.proofs.Persisting.{denotes_final, one_cell, hangs_one, process_on, status_up, stands_map, map_stands, map_length}
 use Rattle.word_states.proofs.Persisting.{at_on, denotes_on, hangs_on}
-use Rattle.word_state_laws.proofs.Settling.{find-settled, not_bound, settled_before}
+use Rattle.word_state_laws.proofs.Settling.{find-settled_free, find-settled, not_bound, settled_before}
 use Rattle.word_state_laws.proofs.Hanging.{same_process_refl}
 
 names_append : (vs us : Addresses) → map (λ b. b.0) (vs ++ us) ≡ map (λ b. b.0) vs ++ map (λ b. b.0) us
@@ -416,6 +416,9 @@ module _ (book : Book) (fresh : Addresses) (born : List ℕ) (s : State) (p : �
     hangers = λ j a e hs h is chain z r. hangers_kept j a e hs (list_was j a e hs h is chain) z r;
     hung = λ j a e hs h is chain q i y ms at st says. hung_kept j a e hs (list_was j a e hs h is chain) q i y ms (was q y at) st says;
     waits = λ q y ms j h st t. waits_kept q y ms j (was q y h) st t;
+    own_free = λ i. find-append s.bound (settled (suc s.entries) bs) (own i)
+        ∙ ap (λ (o : Option (Term Variable)). found_or o (find (settled (suc s.entries) bs) (own i))) (stands.own_free i)
+        ∙ find-settled_free (suc s.entries) bs i;
     dated_places = dated_place;
     dated_bound = dated_binding;
     dated_processes = λ q y h. dated_kept q y (was q y h);

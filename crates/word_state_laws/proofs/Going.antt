@@ -121,6 +121,7 @@ fail_stands book w s stands = record {
   hangers = λ j a e zs h is c z k. let r = stands.hangers j a e zs h is c z k in let le = r.1 in (r.0, omega arith);
   hung = stands.hung;
   waits = stands.waits;
+  own_free = stands.own_free;
   dated_places = λ j a h. let le = stands.dated_places j a h in omega arith;
   dated_bound = λ j t e. let le = stands.dated_bound j t e in omega arith;
   dated_processes = λ p x h. let r = stands.dated_processes p x h in let le = r.0 in (omega arith, r.1);

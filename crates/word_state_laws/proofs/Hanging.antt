@@ -228,6 +228,7 @@ module _ (book : Book) (s : State) (p : ℕ) (x : Process) (ns : List Place) (w 
     hangers = λ k a e hs h is chain z r. hangers_kept k a e hs h (list_was k a e hs h is chain) z r;
     hung = λ k a e hs h is chain q n y ms at st says. hung_kept k a e hs h (list_was k a e hs h is chain) q n y ms (was q y at) st says;
     waits = λ q y ms j h st t. waits_kept q y ms j (was q y h) st t;
+    own_free = stands.own_free;
     dated_places = λ j a h. let le = stands.dated_places j a h in omega arith;
     dated_bound = λ j t e. let le = stands.dated_bound j t e in omega arith;
     dated_processes = λ q y h. dated_kept q y (was q y h);

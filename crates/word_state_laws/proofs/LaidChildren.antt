@@ -36,7 +36,7 @@ use Rattle.word_state_laws.proofs.LaidPlaces.{others', row_word}
 
 module _ {m : Program} {book : Book} {s : State} {p : ℕ} {x : Process} {k : ℕ} {binds : WordList} {ps : List (List ℕ)} {wakes : List ℕ}
     {f : ℕ → ℕ} {w w' : Words} (known : LaidCommit m book s p x k binds ps wakes f w w') where
-  -- a child, where it known.stands among the pieces
+  -- a child, where it stands among the pieces
   born_from : (q : ℕ) (y : Process) → StandsAt (born_at f ps) (children_of (suc s.entries) (clause_used m x.goal k)) q y
       → (k' i' r : ℕ) × (p : List ℕ) × (g : Goal ℕ) × Located 1 1 4000000000 ps k' i' r p × (is_process p ≡ true) × (f r ≡ q)
       × (record { name = proc (suc s.entries) i'; goal = rename_goal (placed (suc s.entries)) g; status = ready } ≡ y)

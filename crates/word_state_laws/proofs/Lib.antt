@@ -9,5 +9,8 @@ pub mod LaidWords
 pub mod LaidPlaces
 pub mod LaidChildren
 pub mod CommitPlans
+pub mod HangPlans
 pub mod HangLaying
 pub mod Going
+pub mod Forming
+pub mod TriedMoves

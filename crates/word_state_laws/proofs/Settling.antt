@@ -66,6 +66,15 @@ find-settled_own n (b ∷ bs) k h =
     go true e = refl
     go false e = e
 
+-- no variable of a clause is bound any more
+pub find-settled_free : (n : ℕ) (bs : Bindings) (k : ℕ) → find (settled n bs) (own k) ≡ None
+find-settled_free n [] k = refl
+find-settled_free n (b ∷ bs) k = cond-false _ _ _ (go b.0) ∙ find-settled_free n bs k
+  where
+    go : (v : Variable) → is_same (settle n v) (own k) ≡ false
+    go (made j) = refl
+    go (own l) = refl
+
 -- a process that is not woken waits on no bound place
 pub not_bound : (bs : Bindings) (ps : List Place) (j : Place) → binds_one bs ps ≡ false → is_listed j ps ≡ true → find bs (made j) ≡ None
 not_bound bs [] j h l = absurd (true≢false (sym l))

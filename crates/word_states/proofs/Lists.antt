@@ -6,7 +6,7 @@ use Rattle.std.proofs.lemmas.Bool.{cond-false, eq-eqb, eqb-true, ne_eqb, cond-tr
 use Rattle.std.proofs.lemmas.Option.{same_Some}
 use Rattle.fcp_model.specs.Places.{Variable}
 use Rattle.heap_words.specs.Trails.{WordList, word_at}
-use Rattle.word_states.specs.Words.{Among, first_of, row, IsIn, AreApart}
+use Rattle.word_states.specs.Words.{addresses_of, Among, first_of, row, IsIn, AreApart}
 use Rattle.word_states.specs.Denoting.{Addresses, Listed}
 
 pub among_left : (xs ys : WordList) (z : ℕ × ℕ) → Among xs z → Among (xs ++ ys) z
@@ -135,3 +135,14 @@ listed_either [] us v a h = inr h
 listed_either (x ∷ vs) us v a (inl e) = inl (inl e)
 listed_either (x ∷ vs) us v a (inr h) =
     ⊎_elim (λ (t : Listed vs v a). inl (inr t)) (λ (t : Listed us v a). inr t) (listed_either vs us v a h)
+
+-- the addresses of a list
+pub addresses_among : (xs : WordList) (a : ℕ) → IsIn a (addresses_of xs) → (x : ℕ) × Among xs (a, x)
+addresses_among [] a h = absurd h
+addresses_among (x ∷ xs) a (inl e) = (x.1, inl (λ i. (e i, x.1)))
+addresses_among (x ∷ xs) a (inr h) = let r = addresses_among xs a h in (r.0, inr r.1)
+
+pub among_addresses : (xs : WordList) (a x : ℕ) → Among xs (a, x) → IsIn a (addresses_of xs)
+among_addresses [] a x h = absurd h
+among_addresses (y ∷ ys) a x (inl e) = inl (ap (λ (z : ℕ × ℕ). z.0) e)
+among_addresses (y ∷ ys) a x (inr h) = inr (among_addresses ys a x h)

@@ -156,7 +156,24 @@ place_once k i b (q ∷ qs) k1 i1 s1 p1 k2 i2 s2 p2 (inr g) (inl h) e f =
 place_once k i b (q ∷ qs) k1 i1 s1 p1 k2 i2 s2 p2 (inr g) (inr h) e f =
     place_once (next_place k q) (next_process i q) (b + length q) qs k1 i1 s1 p1 k2 i2 s2 p2 g h e f
 
--- and so have processes
+-- and of two the one with the higher number stands further on
+pub place_rises : (k i b : ℕ) (ps : List (List ℕ)) (k1 i1 s1 : ℕ) (p1 : List ℕ) (k2 i2 s2 : ℕ) (p2 : List ℕ)
+    → Located k i b ps k1 i1 s1 p1 → Located k i b ps k2 i2 s2 p2 → is_place p1 ≡ true → k1 < k2 → s1 < s2
+place_rises k i b [] k1 i1 s1 p1 k2 i2 s2 p2 g h e lt = absurd g
+place_rises k i b (q ∷ qs) k1 i1 s1 p1 k2 i2 s2 p2 (inl g) (inl h) e lt = let x = g.0 in let y = h.0 in absurd (omega arith)
+place_rises k i b (q ∷ qs) k1 i1 s1 p1 k2 i2 s2 p2 (inl g) (inr h) e lt =
+    let r = located_above (next_place k q) (next_process i q) (b + length q) qs k2 i2 s2 p2 h in
+    let size = place_size q (ap is_place g.3 ∙ e) in
+    let y = g.2 in let z = r.2 in
+    omega arith
+place_rises k i b (q ∷ qs) k1 i1 s1 p1 k2 i2 s2 p2 (inr g) (inl h) e lt =
+    let r = located_above k i b (q ∷ qs) k1 i1 s1 p1 (inr g) in
+    let x = h.0 in let z = r.0 in
+    absurd (omega arith)
+place_rises k i b (q ∷ qs) k1 i1 s1 p1 k2 i2 s2 p2 (inr g) (inr h) e lt =
+    place_rises (next_place k q) (next_process i q) (b + length q) qs k1 i1 s1 p1 k2 i2 s2 p2 g h e lt
+
+-- processes have their own numbers too
 pub process_once : (k i b : ℕ) (ps : List (List ℕ)) (k1 i1 s1 : ℕ) (p1 : List ℕ) (k2 i2 s2 : ℕ) (p2 : List ℕ)
     → Located k i b ps k1 i1 s1 p1 → Located k i b ps k2 i2 s2 p2 → is_process p1 ≡ true → is_process p2 ≡ true → (i1 ≡ i2 → s1 ≡ s2)
     × (s1 ≡ s2 → i1 ≡ i2)

@@ -3,6 +3,7 @@ use Rattle.std.specs.Prelude.{◌≡◌, ◌⊎◌, ◌↔◌, ℕ, ◌+◌, ◌
 use Rattle.fcp_model.specs.declared.run.Place.{Place}
 use Rattle.fcp_model.specs.Places.{Variable, made, own, is_same_process, is_listed}
 use Rattle.fcp_model.specs.Terms.{Term, Bindings, find}
+use Rattle.fcp_model.specs.Reads.{BindsPlaces}
 use Rattle.fcp_model.specs.States.{Status, ready, waiting, finished, Process, State}
 use Rattle.heap_words.specs.Cells.{decoded}
 use Rattle.heap_words.specs.Trails.{WordList}
@@ -108,6 +109,8 @@ pub record StandsFor (book : Book) (w : Words) (s : State) : Type 0 where
   -- processes wait on unbound places of the state
   pub waits : (p : ℕ) (x : Process) (ps : List Place) (j : Place) → ProcessAt book s p x → x.status ≡ waiting ps
       → is_listed j ps ≡ true → ((a : ℕ) × PlaceAt book j a) × (find s.bound (made j) ≡ None)
+  -- places alone are bound
+  pub own_free : BindsPlaces s.bound
   -- no name has an entry above the number of entries
   pub dated_places : (j : Place) (a : ℕ) → PlaceAt book j a → j.entry ≤ s.entries
   pub dated_bound : (j : Place) (t : Term Variable) → find s.bound (made j) ≡ Some t → j.entry ≤ s.entries
