@@ -14,7 +14,7 @@ use Rattle.machine_code.specs.Instructions.{Op, GetCons, GetTuple, Unify, Jump}
 use Rattle.machine_code.specs.Machine.{count}
 use Rattle.head_code.specs.TermCode.{put}
 use Rattle.head_code.specs.HeadCode.{unmade, ask, between, get, gets}
-use Rattle.head_code.specs.Emitting.{Emits}
+use Rattle.head_code.specs.Emitting.{Emits, plain_op}
 use Rattle.head_code.proofs.Emitting.{emits_on}
 use Rattle.head_code.proofs.Patches.{patched}
 use Rattle.head_code.proofs.PutLoops.{Remains, remains_as, fewer_remain, tuple_of, count_of}
@@ -56,8 +56,7 @@ opened_emitted a b c d e o i opener inner other start put to es ep et ab bc cd p
     let all = emits_on a b d (o ∷ []) (inner ++ Jump to ∷ other) ab (emits_on b c d inner (Jump to ∷ other) bc cd) in
     subst (λ l. Emits a e l) (λ k. opener (put' k) ∷ (inner ++ Jump (to' k) ∷ other)) (patch a all)
 
--- a pair was unified
-pub small_pair : (a b c d e f : Emitter) (i n r g start met met' p : ℕ) (t h u h' u' : source.Term) → t ≡ Cons h u → h' ≡ h → u' ≡ u
+pair_emitted : (a b c d e f : Emitter) (i n r g start met met' p : ℕ) (t h u h' u' : source.Term) → t ≡ Cons h u → h' ≡ h → u' ≡ u
     → start ≡ length a.instrs.items → r ≡ n + 1 → g ≡ n + 2 → met' ≡ (mark met (term_of h')).met
     → Emits a b (GetCons i n r 0 ∷ []) → Emits b c (get (length b.instrs.items) n g unmade (mark met (term_of h')).item)
     → Emits c d (get (length c.instrs.items) r g unmade (mark met' (term_of u')).item)
@@ -66,7 +65,7 @@ pub small_pair : (a b c d e f : Emitter) (i n r g start met met' p : ℕ) (t h u
     → f.instrs.items ≡ slice_set e.instrs.items start (instr.GetCons i n r p) → f.smalls.keys ≡ e.smalls.keys
     → f.steps.items ≡ e.steps.items
     → Emits a f (get (length a.instrs.items) i n unmade (mark met (term_of t)).item)
-small_pair a b c d e f i n r g start met met' p t h u h' u' et eh eu es er eg em ab bc cd de ep fi fm fs =
+pair_emitted a b c d e f i n r g start met met' p t h u h' u' et eh eu es er eg em ab bc cd de ep fi fm fs =
     let A = length a.instrs.items in
     let x = (mark met (term_of h')).item in
     let y = (mark met' (term_of u')).item in
@@ -91,8 +90,21 @@ small_pair a b c d e f i n r g start met met' p t h u h' u' et eh eu es er eg em
     subst (λ l. Emits a f l) ((λ k. between A (GetCons i n (r' k)) (inner k) ((same ∙ ap (ask i n unmade) shape) k))
     ∙ ap (get A i n unmade) (sym shape)) all
 
--- a tuple was unified
-pub small_tuple : (a b c d e : Emitter) (i n g start met k p : ℕ) (t : source.Term) (ts ts' : List source.Term) → t ≡ Tuple ts → ts' ≡ ts
+-- a pair was unified
+pub small_pair : (a b c d e f : Emitter) (i n r g start met met' p : ℕ) (t h u h' u' : source.Term) (x y : Instr) → t ≡ Cons h u → h' ≡ h
+    → u' ≡ u → start ≡ length a.instrs.items → r ≡ n + 1 → g ≡ n + 2 → met' ≡ (mark met (term_of h')).met
+    → x ≡ instr.GetCons i n r 0 → y ≡ instr.GetCons i n r p
+    → Emits a b (plain_op x ∷ []) → Emits b c (get (length b.instrs.items) n g unmade (mark met (term_of h')).item)
+    → Emits c d (get (length c.instrs.items) r g unmade (mark met' (term_of u')).item)
+    → Emits d e (Jump (suc (length d.instrs.items) + length (ask i n unmade (term_of t))) ∷ ask i n unmade (term_of t))
+    → p ≡ length d.instrs.items + 1
+    → f.instrs.items ≡ slice_set e.instrs.items start y → f.smalls.keys ≡ e.smalls.keys → f.steps.items ≡ e.steps.items
+    → Emits a f (get (length a.instrs.items) i n unmade (mark met (term_of t)).item)
+small_pair a b c d e f i n r g start met met' p t h u h' u' x y et eh eu es er eg em ex ey ab bc cd de ep fi fm fs =
+    pair_emitted a b c d e f i n r g start met met' p t h u h' u' et eh eu es er eg em
+    (subst (λ z. Emits a b (plain_op z ∷ [])) ex ab) bc cd de ep (fi ∙ ap (slice_set e.instrs.items start) ey) fm fs
+
+tuple_emitted : (a b c d e : Emitter) (i n g start met k p : ℕ) (t : source.Term) (ts ts' : List source.Term) → t ≡ Tuple ts → ts' ≡ ts
     → start ≡ length a.instrs.items → k ≡ length ts' → g ≡ n + k
     → Emits a b (GetTuple i n k 0 ∷ []) → Emits b c (gets (length b.instrs.items) n g unmade (marks met (terms_of (map term_of ts'))).item)
     → Emits c d (Jump (suc (length c.instrs.items) + length (ask i n unmade (term_of t))) ∷ ask i n unmade (term_of t))
@@ -100,7 +112,7 @@ pub small_tuple : (a b c d e : Emitter) (i n g start met k p : ℕ) (t : source.
     → e.instrs.items ≡ slice_set d.instrs.items start (instr.GetTuple i n k p) → e.smalls.keys ≡ d.smalls.keys
     → e.steps.items ≡ d.steps.items
     → Emits a e (get (length a.instrs.items) i n unmade (mark met (term_of t)).item)
-small_tuple a b c d e i n g start met k p t ts ts' et ets es ek eg ab bc cd ep fi fm fs =
+tuple_emitted a b c d e i n g start met k p t ts ts' et ets es ek eg ab bc cd ep fi fm fs =
     let A = length a.instrs.items in
     let us = terms_of (map term_of ts') in
     let xs = (marks met us).item in
@@ -118,6 +130,18 @@ small_tuple a b c d e i n g start met k p t ts ts' et ets es ek eg ab bc cd ep f
     sym (mark_asked (term_of t) met i n) ∙ ap (λ z. ask i n unmade (mark met z).item) shape in
     subst (λ l. Emits a e l) ((λ j. between A (GetTuple i n (kc j)) (inner j) (same j))
     ∙ ap (λ z. get A i n unmade (mark met z).item) (sym shape)) all
+
+-- a tuple was unified
+pub small_tuple : (a b c d e : Emitter) (i n g start met k p : ℕ) (t : source.Term) (ts ts' : List source.Term) (x y : Instr) → t ≡ Tuple ts
+    → ts' ≡ ts → start ≡ length a.instrs.items → k ≡ length ts' → g ≡ n + k → x ≡ instr.GetTuple i n k 0 → y ≡ instr.GetTuple i n k p
+    → Emits a b (plain_op x ∷ []) → Emits b c (gets (length b.instrs.items) n g unmade (marks met (terms_of (map term_of ts'))).item)
+    → Emits c d (Jump (suc (length c.instrs.items) + length (ask i n unmade (term_of t))) ∷ ask i n unmade (term_of t))
+    → p ≡ length c.instrs.items + 1
+    → e.instrs.items ≡ slice_set d.instrs.items start y → e.smalls.keys ≡ d.smalls.keys → e.steps.items ≡ d.steps.items
+    → Emits a e (get (length a.instrs.items) i n unmade (mark met (term_of t)).item)
+small_tuple a b c d e i n g start met k p t ts ts' x y et ets es ek eg ex ey ab bc cd ep fi fm fs =
+    tuple_emitted a b c d e i n g start met k p t ts ts' et ets es ek eg (subst (λ z. Emits a b (plain_op z ∷ [])) ex ab) bc cd ep
+    (fi ∙ ap (slice_set d.instrs.items start) ey) fm fs
 
 -- parts of a small tuple are left
 abbrev pub SmallLeft : Emitter → Emitter → List Op → ℕ → ℕ → ℕ → List source.Term → ℕ → Type 0

@@ -6,7 +6,7 @@ ghost use Rattle.head_code.specs.Emitting.{Emits, after};
 ghost use Rattle.head_code.specs.HeadCode.{is_stocked, argument_code, head_code};
 
 use crate::emitter::{Emitter, up};
-use crate::heads::{open, opened_size};
+use crate::heads::{Opening, open, opened_size};
 use crate::small_terms::open_small;
 use crate::terms::{put, width};
 use fcp_model::{NoMemory, Term};
@@ -33,7 +33,14 @@ fn stocked(
     let parts = up(base, 1)?;
     let free = put(alloc, code, term, base, parts)?;
     let size = opened_size(term)?;
-    let opened = open(alloc, code, term, slot, free, base, parts, met, size)?;
+    let at = Opening {
+        slot,
+        next: free,
+        stock: base,
+        parts,
+        met,
+    };
+    let opened = open(alloc, code, term, at, size)?;
     Ok(opened.met)
 }
 

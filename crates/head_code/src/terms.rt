@@ -1,15 +1,63 @@
 //! Code that puts terms into slots, parts before wholes.
-ghost use Rattle.std.specs.Prelude.{◌≡◌, ◌+◌, ◌≤◌, IfOk, OnOk};
-ghost use Rattle.fcp_model.specs.Terms.{tuple};
+ghost use Rattle.std.specs.Prelude.{◌≡◌, ◌+◌, ◌≤◌, [], ◌∷◌, Some, length, IfOk, OnOk};
+ghost use Rattle.heap_words.specs.Cells.{IsCell};
+ghost use Rattle.fcp_model.specs.Terms.{number, tuple};
+ghost use Rattle.machine_code.specs.Instructions.{PutWord, PutVar};
+ghost use Rattle.machine_code.specs.Reading.{constant};
 ghost use Rattle.fcp_model.specs.Translation.{term_of};
-ghost use Rattle.head_code.specs.Emitting.{Emits};
+ghost use Rattle.head_code.specs.Emitting.{Emits, IsConstant};
 ghost use Rattle.head_code.specs.TermCode.{parts_of, put, puts, width, widths};
 
 use crate::emitter::{Emitter, up};
 use fcp_model::{NoMemory, Sym, Term};
-use heap_words::{Cell, encode};
+use heap_words::Cell;
 use machine_code::Instr;
 use std::alloc::Global;
+
+/// How many parts a tuple has; there is no memory for one of more than 255.
+pub fn part_count(terms: &[Term]) -> Result<u8, NoMemory>
+    ensures { IfOk result (λ n. n ≡ length terms.now) }
+{
+    match u8::try_from(terms.len()) {
+        Ok(count) => Ok(count),
+        Err(_) => Err(NoMemory),
+    }
+}
+
+/// Puts a number into a slot; there are no parts.
+fn put_number(code: &mut Emitter, value: i64, slot: u32, next: u32) -> Result<u32, NoMemory>
+    ensures code { OnOk result (Emits code.old code.new (PutWord slot (number value) ∷ [])) }
+    ensures next { IfOk result (λ n. n ≡ next) }
+{
+    code.emit_number(slot, value)?;
+    Ok(next)
+}
+
+/// Puts a string or `[]` into a slot; there are no parts.
+fn put_cell(code: &mut Emitter, cell: Cell, slot: u32, next: u32) -> Result<u32, NoMemory>
+    requires fits { IsCell cell }
+    requires constant { IsConstant (Some cell) }
+    ensures code { OnOk result (Emits code.old code.new (PutWord slot (constant [] (Some cell)) ∷ [])) }
+    ensures next { IfOk result (λ n. n ≡ next) }
+{
+    code.emit_cell(slot, cell)?;
+    Ok(next)
+}
+
+/// Puts an occurrence of a variable into a slot; there are no parts.
+fn put_variable(
+    code: &mut Emitter,
+    var: u8,
+    ro: bool,
+    slot: u32,
+    next: u32,
+) -> Result<u32, NoMemory>
+    ensures code { OnOk result (Emits code.old code.new (PutVar slot var ro ∷ [])) }
+    ensures next { IfOk result (λ n. n ≡ next) }
+{
+    code.emit(Instr::PutVar { slot, var, ro })?;
+    Ok(next)
+}
 
 /// Puts a term into a slot, and its parts into the slots from `next` on. Answers the first slot after those.
 #[cycle(terms)]
@@ -24,50 +72,23 @@ pub fn put(
     ensures next { IfOk result (λ n. n ≡ next + width (term_of term.now)) }
 {
     match term {
-        Term::Int(number) => {
-            code.emit_number(slot, *number)?;
-            Ok(next)
-        }
+        Term::Int(number) => put_number(code, *number, slot, next),
         Term::Str(string) => {
             let Sym(name) = *string;
-            code.emit_cell(slot, Cell::Str(Sym(name)))?;
-            Ok(next)
+            put_cell(code, Cell::Str(Sym(name)), slot, next)
         }
-        Term::Nil => {
-            code.emit_cell(slot, Cell::Nil)?;
-            Ok(next)
-        }
-        Term::Var(var) => {
-            code.emit(Instr::PutVar {
-                slot,
-                var: *var,
-                ro: false,
-            })?;
-            Ok(next)
-        }
-        Term::Ro(var) => {
-            code.emit(Instr::PutVar {
-                slot,
-                var: *var,
-                ro: true,
-            })?;
-            Ok(next)
-        }
+        Term::Nil => put_cell(code, Cell::Nil, slot, next),
+        Term::Var(var) => put_variable(code, *var, false, slot, next),
+        Term::Ro(var) => put_variable(code, *var, true, slot, next),
         Term::Cons(head, tail) => {
-            let right = up(next, 1)?;
+            let (left, right) = (next, up(next, 1)?);
             let behind = put(alloc, code, head.get(), next, up(next, 2)?)?;
             let end = put_rest(alloc, code, tail.get(), right, behind)?;
-            code.emit(Instr::PutCons {
-                slot,
-                left: next,
-                right,
-            })?;
+            code.emit(Instr::PutCons { slot, left, right })?;
             Ok(end)
         }
         Term::Tuple(parts) => {
-            let Ok(count) = u8::try_from(parts.len()) else {
-                return Err(NoMemory);
-            };
+            let count = part_count(parts.as_slice())?;
             let end = put_parts(alloc, code, parts.as_slice(), next, up(next, count as u32)?)?;
             code.emit(Instr::PutTuple {
                 slot,

@@ -10,12 +10,12 @@ put-returns-in_ok-emit-in-Cons-clause-code t c =
 
 pub put-returns-in_ok-emit-in-Tuple-clause-code : goal.put-returns-in_ok-emit-in-Tuple-clause-code
 put-returns-in_ok-emit-in-Tuple-clause-code t c =
-    tuple_put _ _ _ _ _ _ _ _ _ _ c.in-Tuple.is c.as_slice.ensures
+    tuple_put _ _ _ _ _ _ _ _ _ _ c.in-Tuple.is c.as_slice-in-Tuple.ensures
     (search rules) c.in_ok-up-in-Tuple.ensures c.in_ok-end-in-Tuple.ensures.code c.in_ok-emit-in-Tuple.ensures
 
 pub put-returns-in_ok-emit-in-Tuple-clause-next : goal.put-returns-in_ok-emit-in-Tuple-clause-next
 put-returns-in_ok-emit-in-Tuple-clause-next t c =
-    tuple_behind _ _ _ _ _ _ _ c.in-Tuple.is c.as_slice.ensures
+    tuple_behind _ _ _ _ _ _ _ c.in-Tuple.is c.as_slice-in-Tuple.ensures
     (search rules) c.in_ok-up-in-Tuple.ensures c.in_ok-end-in-Tuple.ensures.next
 
 pub put_parts-loop-term-preserved : goal.put_parts-loop-term-preserved
