@@ -26,7 +26,7 @@ use Rattle.fcp_model.specs.Pair.{Pair, Step, binds, parts, compare, part_step, T
 use Rattle.fcp_model.specs.Pair.{bind_solid, table, both_looks, first_of, pair_on, pair}
 use Rattle.fcp_model.specs.Pair as pairs
 use Rattle.fcp_model.proofs.MoreSteps.{at_least, occurs_more}
-use Rattle.unify_terms.specs.Denotes.{Naming, Denotes, DenotesPairs, Stands, Names, IsPlace, LookIs}
+use Rattle.unify_terms.specs.Denotes.{Naming, Denotes, DenotesPairs, Stands, Names, IsPlace, HasPlace, LookIs}
 use Rattle.unify_terms.proofs.OccursInWords.{FoundIs, hits, misses, map_end, or_miss, occurs_so}
 use Rattle.unify_terms.proofs.AlikeInWords.{is_plain, SameAlike, neither, both, alike_so}
 use Rattle.unify_terms.proofs.MovesInWords.{does_nothing, does_wait, does_order, does_bind, Checked, was_found, was_absent, does_check}
@@ -37,7 +37,8 @@ module _ (p : Naming) (m : Memory) (names : Names p m) where
   -- a turn of the words as a step of the terms, under bindings of places
   pub data TurnIs (bs : WordList) (s : Bindings) : Turn → Step → Type 0 where
     idle : TurnIs bs s (goes bs []) pairs.nothing
-    bound : (bs' : WordList) (v : Variable) (t : Term Variable) → Stands p m bs' (s ++ (v, t) ∷ []) → TurnIs bs s (goes bs' []) (binds v t)
+    bound : (bs' : WordList) (v : Variable) (t : Term Variable) → HasPlace p m v → Stands p m bs' (s ++ (v, t) ∷ [])
+        → TurnIs bs s (goes bs' []) (binds v t)
     split : (qs : List (ℕ × ℕ)) (ts : List Pair) → DenotesPairs p m ts qs → TurnIs bs s (goes bs qs) (parts ts)
     unlike : TurnIs bs s clashes pairs.clashes
     halts : TurnIs bs s waits pairs.waits
@@ -102,7 +103,7 @@ module _ (p : Naming) (m : Memory) (names : Names p m) where
           treats = λ n _. g n;
           read = ap (map p.name) e.1 ∙ f;
           is = subst (λ (z : Turn). TurnIs bs s z (binds v u)) (sym e.0)
-              (bound (bs ++ (a, x) ∷ []) v u (stands_bound p m names bs s a x v u st i h n d));
+              (bound (bs ++ (a, x) ∷ []) v u (a, (h, n)) (stands_bound p m names bs s a x v u st i h n d));
         }
 
     ref_denotes : (a : ℕ) (v : Variable) → IsPlace p m a v → Denotes p m (var v) (encoded (cell.Ref a))
@@ -265,7 +266,7 @@ module _ (p : Naming) (m : Memory) (names : Names p m) where
               (λ (z : Term Variable). treated (binds v z) (v ∷ k.0)) (plain_same p m names u x d));
           read = more_reads rs rs0 rs' v k.0 f k.2;
           is = subst (λ (z : Turn). TurnIs bs s z (binds v u)) (sym e)
-              (bound (bs ++ (a, x) ∷ []) v u (stands_bound p m names bs s a x v u st here i.0 i.1 d));
+              (bound (bs ++ (a, x) ∷ []) v u (a, i) (stands_bound p m names bs s a x v u st here i.0 i.1 d));
         }
 
     -- two words that are none

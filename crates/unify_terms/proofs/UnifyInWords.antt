@@ -1,17 +1,18 @@
 -- The unification of words is that of their terms.
-use Rattle.std.proofs.Common.{◌≡◌, ℕ, suc, ◌+◌, ◌≤◌, false, List, [], ◌∷◌, ◌++◌, map, Some}
-use Rattle.std.proofs.Common.{None, refl, sym, ap, ap₂, ◌∙◌, subst, arith, append_assoc}
+use Rattle.std.proofs.Common.{◌≡◌, ◌⊎◌, ℕ, suc, ◌+◌, ◌≤◌, Bool, true, false, cond, List, [], ◌∷◌, ◌++◌, map, Option, Some}
+use Rattle.std.proofs.Common.{None, refl, sym, ap, ap₂, ◌∙◌, subst, inl, inr, ⊎_elim, arith, append_assoc}
 use Rattle.heap_words.specs.Trails.{WordList, Memory}
 use Rattle.ro_unify.specs.Unify.{Turn, goes, clashes, waits, Treats, Unifies, at_end, on, clashed, stopped}
 use Rattle.ro_unify.specs.Unify as words
-use Rattle.fcp_model.specs.Places.{Variable}
-use Rattle.fcp_model.specs.Terms.{Term, number, string, nil, cons, tuple, var, ro, first, Bindings}
+use Rattle.fcp_model.specs.Places.{Variable, is_same}
+use Rattle.fcp_model.specs.Terms.{Term, number, string, nil, cons, tuple, var, ro, first, Bindings, find}
 use Rattle.fcp_model.specs.Value.{value}
 use Rattle.fcp_model.specs.Pair.{Pair, Step, treated, table, both_looks, first_of, pair_on, pair}
 use Rattle.fcp_model.specs.Unification.{unify, go_on, step_on}
 use Rattle.fcp_model.specs.Unification as endings
+use Rattle.fcp_model.proofs.Finding.{found_or, find-append, is_same-true}
 use Rattle.fcp_model.proofs.MoreSteps.{at_least, value_more, unify_more}
-use Rattle.unify_terms.specs.Denotes.{Naming, Denotes, DenotesPairs, Stands, Names, HasValue, value_as, EndsAs, finished, UnifiesAs}
+use Rattle.unify_terms.specs.Denotes.{Naming, Denotes, DenotesPairs, Stands, Names, HasValue, HasPlace, BindsNamed, value_as, EndsAs, finished, UnifiesAs}
 use Rattle.unify_terms.specs.Denotes as denoted
 use Rattle.unify_terms.proofs.ValuesOfWords.{values_so}
 use Rattle.unify_terms.proofs.PairsInWords.{TurnIs, idle, bound, split, unlike, halts, Treats_as, by_looks}
@@ -72,6 +73,27 @@ module _ (p : Naming) (m : Memory) (names : Names p m) where
       → unify k s ts rs ps ≡ Some e
   enough s ts n k rs ps e l h = at_least (λ (i : ℕ). unify i s ts rs ps) (λ i. unify_more s i ts rs ps) n k l e h
 
+  -- what is bound with one place more, and so on to the end
+  one_more : (ts : Bindings) (v : Variable) (u : Term Variable) → HasPlace p m v → (q : Variable) (t : Term Variable)
+      → find (ts ++ (v, u) ∷ []) q ≡ Some t → (find ts q ≡ Some t) ⊎ HasPlace p m q
+  one_more ts v u h q t e = go (find ts q) refl (is_same v q) refl (sym (find-append ts ((v, u) ∷ []) q) ∙ e)
+    where
+      go : (o : Option (Term Variable)) → find ts q ≡ o → (c : Bool) → is_same v q ≡ c
+          → found_or (find ts q) (cond (is_same v q) (Some u) None) ≡ Some t → (find ts q ≡ Some t) ⊎ HasPlace p m q
+      go (Some z) f c g k = inl (f ∙ (sym (ap (λ (x : Option (Term Variable)). found_or x (cond (is_same v q) (Some u) None)) f) ∙ k))
+      go None f true g k = inr (subst (HasPlace p m) (is_same-true v q g) h)
+      go None f false g k =
+          absurd (let l : None ≡ Some t =
+          sym (ap (λ (x : Option (Term Variable)). found_or x (cond (is_same v q) (Some u) None)) f
+          ∙ ap (λ (c : Bool). found_or None (cond c (Some u) None)) g) ∙ k in cc)
+
+  named_from : (us ts : Bindings) → ((v : Variable) (t : Term Variable) → find us v ≡ Some t → (find ts v ≡ Some t) ⊎ HasPlace p m v)
+      → (e : endings.Ended) → BindsNamed p m us e → BindsNamed p m ts e
+  named_from us ts from (endings.done bs rs) h =
+      λ v t e. ⊎_elim (λ i. from v t i) (λ i. inr i) (h v t e)
+  named_from us ts from (endings.clash rs) h = tt
+  named_from us ts from (endings.wait rs) h = tt
+
   module _ (s ts : Bindings) (bs : WordList) (rs rs' : List ℕ) (a b : Term Variable) (tps : List Pair) (ps : List (ℕ × ℕ))
       (left : DenotesPairs p m tps ps) (st : Stands p m bs (s ++ ts)) where
     going : (bs' : WordList) (qs : List (ℕ × ℕ)) (e : words.Ended) (t : Turn)
@@ -80,15 +102,18 @@ module _ (p : Naming) (m : Memory) (names : Names p m) where
         → t ≡ goes bs' qs → UnifiesAs p m s ts rs ((a, b) ∷ tps) e
     going bs' qs e t r rec h = go t r.step r.is refl h
       where
-        made : (us : Bindings) (ups : List Pair) → (k : UnifiesAs p m s us rs' ups e)
+        made : (us : Bindings) (ups : List Pair)
+            → ((v : Variable) (t : Term Variable) → find us v ≡ Some t → (find ts v ≡ Some t) ⊎ HasPlace p m v)
+            → (k : UnifiesAs p m s us rs' ups e)
             → ((n : ℕ) → step_on (unify n s) ts (map p.name rs ++ r.reads) tps r.step ≡ unify n s us (map p.name rs') ups)
             → UnifiesAs p m s ts rs ((a, b) ∷ tps) e
-        made us ups k same = record {
+        made us ups from k same = record {
           steps = suc (r.steps + k.steps);
           end = k.end;
           by_steps = one_step s ts (map p.name rs) a b tps (r.steps + k.steps) r.step r.reads (r.treats (r.steps + k.steps) (omega arith))
               ∙ (same (r.steps + k.steps) ∙ enough s us k.steps (r.steps + k.steps) (map p.name rs') ups k.end (omega arith) k.by_steps);
           alike = k.alike;
+          named = named_from us ts from k.end k.named;
         }
 
         go : (t2 : Turn) (st2 : Step) → TurnIs p m names bs (s ++ ts) t2 st2 → r.step ≡ st2 → t2 ≡ goes bs' qs
@@ -96,14 +121,14 @@ module _ (p : Naming) (m : Memory) (names : Names p m) where
         go _ _ idle f i =
             let j : bs ≡ bs' = cc in
             let k : [] ≡ qs = cc in
-            made ts tps (rec ts tps (subst (λ (z : WordList). Stands p m z (s ++ ts)) j st)
+            made ts tps (λ v' t' g. inl g) (rec ts tps (subst (λ (z : WordList). Stands p m z (s ++ ts)) j st)
             (subst (λ (z : List (ℕ × ℕ)). DenotesPairs p m tps (z ++ ps)) k left))
             (λ n. ap (step_on (unify n s) ts (map p.name rs ++ r.reads) tps) f ∙ ap (λ (z : List Variable). unify n s ts z tps)
             (sym r.read))
-        go _ _ (bound bs2 v u x) f i =
+        go _ _ (bound bs2 v u a' x) f i =
             let j : bs2 ≡ bs' = cc in
             let k : [] ≡ qs = cc in
-            made (ts ++ (v, u) ∷ []) tps
+            made (ts ++ (v, u) ∷ []) tps (one_more ts v u a')
             (rec (ts ++ (v, u) ∷ []) tps
             (subst (λ (z : Bindings). Stands p m bs' z) (append_assoc s ts ((v, u) ∷ []))
             (subst (λ (z : WordList). Stands p m z ((s ++ ts) ++ (v, u) ∷ [])) j x))
@@ -113,7 +138,7 @@ module _ (p : Naming) (m : Memory) (names : Names p m) where
         go _ _ (split vs tqs d) f i =
             let j : bs ≡ bs' = cc in
             let k : vs ≡ qs = cc in
-            made ts (tqs ++ tps)
+            made ts (tqs ++ tps) (λ v' t' g. inl g)
             (rec ts (tqs ++ tps) (subst (λ (z : WordList). Stands p m z (s ++ ts)) j st)
             (subst (λ (z : List (ℕ × ℕ)). DenotesPairs p m (tqs ++ tps) (z ++ ps)) k (pairs_with tqs tps vs ps d left)))
             (λ n. ap (step_on (unify n s) ts (map p.name rs ++ r.reads) tps) f ∙ ap (λ (z : List Variable). unify n s ts z (tqs ++ tps))
@@ -128,7 +153,7 @@ module _ (p : Naming) (m : Memory) (names : Names p m) where
         go : (t2 : Turn) (st2 : Step) → TurnIs p m names bs (s ++ ts) t2 st2 → r.step ≡ st2 → t2 ≡ clashes
             → UnifiesAs p m s ts rs ((a, b) ∷ tps) (words.clash rs')
         go _ _ idle f i = cc
-        go _ _ (bound bs2 v u x) f i = cc
+        go _ _ (bound bs2 v u a' x) f i = cc
         go _ _ (split vs tqs d) f i = cc
         go _ _ halts f i = cc
         go _ _ unlike f i = record {
@@ -138,6 +163,7 @@ module _ (p : Naming) (m : Memory) (names : Names p m) where
               (ap (step_on (unify r.steps s) ts (map p.name rs ++ r.reads) tps) f ∙ ap (λ (z : List Variable). Some (endings.clash z))
               (sym r.read));
           alike = denoted.clashed rs';
+          named = tt;
         }
 
     halting : (t : Turn) → (r : Treats_as p m names bs (s ++ ts) rs rs' t (λ n. pair n (s ++ ts) a b)) → t ≡ waits
@@ -147,7 +173,7 @@ module _ (p : Naming) (m : Memory) (names : Names p m) where
         go : (t2 : Turn) (st2 : Step) → TurnIs p m names bs (s ++ ts) t2 st2 → r.step ≡ st2 → t2 ≡ waits
             → UnifiesAs p m s ts rs ((a, b) ∷ tps) (words.stop rs')
         go _ _ idle f i = cc
-        go _ _ (bound bs2 v u x) f i = cc
+        go _ _ (bound bs2 v u a' x) f i = cc
         go _ _ (split vs tqs d) f i = cc
         go _ _ unlike f i = cc
         go _ _ halts f i = record {
@@ -157,13 +183,14 @@ module _ (p : Naming) (m : Memory) (names : Names p m) where
               (ap (step_on (unify r.steps s) ts (map p.name rs ++ r.reads) tps) f ∙ ap (λ (z : List Variable). Some (endings.wait z))
               (sym r.read));
           alike = denoted.paused rs';
+          named = tt;
         }
 
   -- the unification of words is that of their terms, by some number of steps
   pub unify_so : (s : Bindings) (bs : WordList) (rs : List ℕ) (ps : List (ℕ × ℕ)) (e : words.Ended) → Unifies m bs rs ps e
       → (ts : Bindings) (tps : List Pair) → Stands p m bs (s ++ ts) → DenotesPairs p m tps ps → UnifiesAs p m s ts rs tps e
   unify_so s _ _ _ _ (at_end bs rs) ts [] st d =
-      record { steps = 1; end = endings.done ts (map p.name rs); by_steps = refl; alike = finished bs rs ts st }
+      record { steps = 1; end = endings.done ts (map p.name rs); by_steps = refl; alike = finished bs rs ts st; named = λ v t e. inl e }
   unify_so s _ _ _ _ (at_end bs rs) ts (t ∷ tps) st d = absurd d
   unify_so s _ _ _ _ (on bs rs w ps bs' qs rs' e t u) ts [] st d = absurd d
   unify_so s _ _ _ _ (on bs rs w ps bs' qs rs' e t u) ts (ab ∷ tps) st d =
