@@ -12,22 +12,13 @@ use Rattle.fcp_model.specs.Unification.{unify, go_on, step_on}
 use Rattle.fcp_model.specs.Unification as endings
 use Rattle.fcp_model.proofs.Finding.{found_or, find-append, is_same-true}
 use Rattle.fcp_model.proofs.MoreSteps.{at_least, value_more, unify_more}
-use Rattle.unify_terms.specs.Denotes.{Naming, Denotes, DenotesPairs, Stands, Names, HasValue, HasPlace, BindsNamed, value_as, EndsAs, finished, UnifiesAs}
+use Rattle.unify_terms.specs.Denotes.{Naming, Denotes, DenotesPairs, Stands, Names, HasValue, HasPlace, BindsNamed, EndsAs, finished}
+use Rattle.unify_terms.specs.Denotes.{UnifiesAs}
 use Rattle.unify_terms.specs.Denotes as denoted
-use Rattle.unify_terms.proofs.ValuesOfWords.{values_so}
+use Rattle.unify_terms.proofs.ValuesOfWords.{values_so, value_is}
 use Rattle.unify_terms.proofs.PairsInWords.{TurnIs, idle, bound, split, unlike, halts, Treats_as, by_looks}
 
 module _ (p : Naming) (m : Memory) (names : Names p m) where
-  value_is : (n : ℕ) (s : Bindings) (t : Term Variable) → value n s t ≡ value_as p m n s false t
-  value_is n s (var q) = refl
-  value_is n s (ro q) = refl
-  value_is n s (first k) = refl
-  value_is n s (number z) = refl
-  value_is n s (string z) = refl
-  value_is n s nil = refl
-  value_is n s (cons t u) = refl
-  value_is n s (tuple ts) = refl
-
   no_first : (t : Term Variable) (w : ℕ) → Denotes p m t w → first_of t ≡ None
   no_first (var q) w d = refl
   no_first (ro q) w d = refl
@@ -50,14 +41,15 @@ module _ (p : Naming) (m : Memory) (names : Names p m) where
         reads = k.reads;
         treats = λ n l. ap (pair_on n s a b) (no_first b w.1 f)
             ∙ (ap₂ (both_looks (table n s))
-            (at_least (λ (i : ℕ). value i s a) (value_more s a) v.steps n (omega arith) v.look (value_is v.steps s a ∙ v.value))
-            (at_least (λ (i : ℕ). value i s b) (value_more s b) u.steps n (omega arith) u.look (value_is u.steps s b ∙ u.value))
+            (at_least (λ (i : ℕ). value i s a) (value_more s a) v.steps n (omega arith) v.look (value_is p m v.steps s a ∙ v.value))
+            (at_least (λ (i : ℕ). value i s b) (value_more s b) u.steps n (omega arith) u.look (value_is p m u.steps s b ∙ u.value))
             ∙ k.treats n (omega arith));
         read = k.read;
         is = k.is;
       }
 
-  pairs_with : (ts us : List Pair) (vs ws : List (ℕ × ℕ)) → DenotesPairs p m ts vs → DenotesPairs p m us ws
+  -- pairs in front of others
+  pub pairs_with : (ts us : List Pair) (vs ws : List (ℕ × ℕ)) → DenotesPairs p m ts vs → DenotesPairs p m us ws
       → DenotesPairs p m (ts ++ us) (vs ++ ws)
   pairs_with [] us [] ws d e = e
   pairs_with (t ∷ ts) us (v ∷ vs) ws d e = (d.0, d.1, pairs_with ts us vs ws d.2 e)
