@@ -17,7 +17,7 @@ use Rattle.ro_unify.specs.declared.look.Look.{Look}
 use Rattle.ro_unify.specs.declared.look.Look.TheVariants as look
 use Rattle.ro_unify.proofs.Chains.{values_open, value_no_ref}
 use Rattle.fcp_model.specs.Places.{Variable, is_same, is_older}
-use Rattle.fcp_model.specs.Terms.{Term, var, ro, none, more, Bindings}
+use Rattle.fcp_model.specs.Terms.{Term, var, ro, none, more, Bindings, find}
 use Rattle.fcp_model.specs.Value.{writable, read_only, solid, value}
 use Rattle.fcp_model.specs.Value as terms
 use Rattle.fcp_model.specs.Occurs.{occurs}
@@ -37,7 +37,8 @@ module _ (p : Naming) (m : Memory) (names : Names p m) where
   -- a turn of the words as a step of the terms, under bindings of places
   pub data TurnIs (bs : WordList) (s : Bindings) : Turn → Step → Type 0 where
     idle : TurnIs bs s (goes bs []) pairs.nothing
-    bound : (bs' : WordList) (v : Variable) (t : Term Variable) → HasPlace p m v → Stands p m bs' (s ++ (v, t) ∷ [])
+    bound : (bs' : WordList) (v : Variable) (t : Term Variable) → HasPlace p m v → find s v ≡ None
+        → Stands p m bs' (s ++ (v, t) ∷ [])
         → TurnIs bs s (goes bs' []) (binds v t)
     split : (qs : List (ℕ × ℕ)) (ts : List Pair) → DenotesPairs p m ts qs → TurnIs bs s (goes bs qs) (parts ts)
     unlike : TurnIs bs s clashes pairs.clashes
@@ -103,7 +104,8 @@ module _ (p : Naming) (m : Memory) (names : Names p m) where
           treats = λ n _. g n;
           read = ap (map p.name) e.1 ∙ f;
           is = subst (λ (z : Turn). TurnIs bs s z (binds v u)) (sym e.0)
-              (bound (bs ++ (a, x) ∷ []) v u (a, (h, n)) (stands_bound p m names bs s a x v u st i h n d));
+              (bound (bs ++ (a, x) ∷ []) v u (a, (h, n)) (subst (λ (z : Variable). find s z ≡ None) n (st.unbound a h i.0 i.1))
+              (stands_bound p m names bs s a x v u st i h n d));
         }
 
     ref_denotes : (a : ℕ) (v : Variable) → IsPlace p m a v → Denotes p m (var v) (encoded (cell.Ref a))
@@ -266,7 +268,8 @@ module _ (p : Naming) (m : Memory) (names : Names p m) where
               (λ (z : Term Variable). treated (binds v z) (v ∷ k.0)) (plain_same p m names u x d));
           read = more_reads rs rs0 rs' v k.0 f k.2;
           is = subst (λ (z : Turn). TurnIs bs s z (binds v u)) (sym e)
-              (bound (bs ++ (a, x) ∷ []) v u (a, i) (stands_bound p m names bs s a x v u st here i.0 i.1 d));
+              (bound (bs ++ (a, x) ∷ []) v u (a, i) (subst (λ (z : Variable). find s z ≡ None) i.1 (st.unbound a i.0 here.0 here.1))
+              (stands_bound p m names bs s a x v u st here i.0 i.1 d));
         }
 
     -- two words that are none

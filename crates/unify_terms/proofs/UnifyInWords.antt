@@ -66,25 +66,32 @@ module _ (p : Naming) (m : Memory) (names : Names p m) where
   enough s ts n k rs ps e l h = at_least (λ (i : ℕ). unify i s ts rs ps) (λ i. unify_more s i ts rs ps) n k l e h
 
   -- what is bound with one place more, and so on to the end
-  one_more : (ts : Bindings) (v : Variable) (u : Term Variable) → HasPlace p m v → (q : Variable) (t : Term Variable)
-      → find (ts ++ (v, u) ∷ []) q ≡ Some t → (find ts q ≡ Some t) ⊎ HasPlace p m q
-  one_more ts v u h q t e = go (find ts q) refl (is_same v q) refl (sym (find-append ts ((v, u) ∷ []) q) ∙ e)
+  one_more : (s ts : Bindings) (v : Variable) (u : Term Variable) → HasPlace p m v → find (s ++ ts) v ≡ None → (q : Variable)
+      (t : Term Variable) → find (ts ++ (v, u) ∷ []) q ≡ Some t → (find ts q ≡ Some t) ⊎ (HasPlace p m q × (find s q ≡ None))
+  one_more s ts v u h n q t e = go (find ts q) refl (is_same v q) refl (sym (find-append ts ((v, u) ∷ []) q) ∙ e)
     where
+      free : (o : Option (Term Variable)) → found_or o (find ts v) ≡ None → o ≡ None
+      free None i = refl
+      free (Some z) i = cc
+
       go : (o : Option (Term Variable)) → find ts q ≡ o → (c : Bool) → is_same v q ≡ c
-          → found_or (find ts q) (cond (is_same v q) (Some u) None) ≡ Some t → (find ts q ≡ Some t) ⊎ HasPlace p m q
+          → found_or (find ts q) (cond (is_same v q) (Some u) None) ≡ Some t
+          → (find ts q ≡ Some t) ⊎ (HasPlace p m q × (find s q ≡ None))
       go (Some z) f c g k = inl (f ∙ (sym (ap (λ (x : Option (Term Variable)). found_or x (cond (is_same v q) (Some u) None)) f) ∙ k))
-      go None f true g k = inr (subst (HasPlace p m) (is_same-true v q g) h)
+      go None f true g k =
+          let same : v ≡ q = is_same-true v q g in
+          inr (subst (HasPlace p m) same h, subst (λ (z : Variable). find s z ≡ None) same (free (find s v) (sym (find-append s ts v) ∙ n)))
       go None f false g k =
           absurd (let l : None ≡ Some t =
           sym (ap (λ (x : Option (Term Variable)). found_or x (cond (is_same v q) (Some u) None)) f
           ∙ ap (λ (c : Bool). found_or None (cond c (Some u) None)) g) ∙ k in cc)
 
-  named_from : (us ts : Bindings) → ((v : Variable) (t : Term Variable) → find us v ≡ Some t → (find ts v ≡ Some t) ⊎ HasPlace p m v)
-      → (e : endings.Ended) → BindsNamed p m us e → BindsNamed p m ts e
-  named_from us ts from (endings.done bs rs) h =
+  named_from : (s us ts : Bindings) → ((v : Variable) (t : Term Variable) → find us v ≡ Some t
+      → (find ts v ≡ Some t) ⊎ (HasPlace p m v × (find s v ≡ None))) → (e : endings.Ended) → BindsNamed p m s us e → BindsNamed p m s ts e
+  named_from s us ts from (endings.done bs rs) h =
       λ v t e. ⊎_elim (λ i. from v t i) (λ i. inr i) (h v t e)
-  named_from us ts from (endings.clash rs) h = tt
-  named_from us ts from (endings.wait rs) h = tt
+  named_from s us ts from (endings.clash rs) h = tt
+  named_from s us ts from (endings.wait rs) h = tt
 
   module _ (s ts : Bindings) (bs : WordList) (rs rs' : List ℕ) (a b : Term Variable) (tps : List Pair) (ps : List (ℕ × ℕ))
       (left : DenotesPairs p m tps ps) (st : Stands p m bs (s ++ ts)) where
@@ -95,7 +102,7 @@ module _ (p : Naming) (m : Memory) (names : Names p m) where
     going bs' qs e t r rec h = go t r.step r.is refl h
       where
         made : (us : Bindings) (ups : List Pair)
-            → ((v : Variable) (t : Term Variable) → find us v ≡ Some t → (find ts v ≡ Some t) ⊎ HasPlace p m v)
+            → ((v : Variable) (t : Term Variable) → find us v ≡ Some t → (find ts v ≡ Some t) ⊎ (HasPlace p m v × (find s v ≡ None)))
             → (k : UnifiesAs p m s us rs' ups e)
             → ((n : ℕ) → step_on (unify n s) ts (map p.name rs ++ r.reads) tps r.step ≡ unify n s us (map p.name rs') ups)
             → UnifiesAs p m s ts rs ((a, b) ∷ tps) e
@@ -105,7 +112,7 @@ module _ (p : Naming) (m : Memory) (names : Names p m) where
           by_steps = one_step s ts (map p.name rs) a b tps (r.steps + k.steps) r.step r.reads (r.treats (r.steps + k.steps) (omega arith))
               ∙ (same (r.steps + k.steps) ∙ enough s us k.steps (r.steps + k.steps) (map p.name rs') ups k.end (omega arith) k.by_steps);
           alike = k.alike;
-          named = named_from us ts from k.end k.named;
+          named = named_from s us ts from k.end k.named;
         }
 
         go : (t2 : Turn) (st2 : Step) → TurnIs p m names bs (s ++ ts) t2 st2 → r.step ≡ st2 → t2 ≡ goes bs' qs
@@ -117,10 +124,10 @@ module _ (p : Naming) (m : Memory) (names : Names p m) where
             (subst (λ (z : List (ℕ × ℕ)). DenotesPairs p m tps (z ++ ps)) k left))
             (λ n. ap (step_on (unify n s) ts (map p.name rs ++ r.reads) tps) f ∙ ap (λ (z : List Variable). unify n s ts z tps)
             (sym r.read))
-        go _ _ (bound bs2 v u a' x) f i =
+        go _ _ (bound bs2 v u a' n x) f i =
             let j : bs2 ≡ bs' = cc in
             let k : [] ≡ qs = cc in
-            made (ts ++ (v, u) ∷ []) tps (one_more ts v u a')
+            made (ts ++ (v, u) ∷ []) tps (one_more s ts v u a' n)
             (rec (ts ++ (v, u) ∷ []) tps
             (subst (λ (z : Bindings). Stands p m bs' z) (append_assoc s ts ((v, u) ∷ []))
             (subst (λ (z : WordList). Stands p m z ((s ++ ts) ++ (v, u) ∷ [])) j x))
@@ -145,7 +152,7 @@ module _ (p : Naming) (m : Memory) (names : Names p m) where
         go : (t2 : Turn) (st2 : Step) → TurnIs p m names bs (s ++ ts) t2 st2 → r.step ≡ st2 → t2 ≡ clashes
             → UnifiesAs p m s ts rs ((a, b) ∷ tps) (words.clash rs')
         go _ _ idle f i = cc
-        go _ _ (bound bs2 v u a' x) f i = cc
+        go _ _ (bound bs2 v u a' n x) f i = cc
         go _ _ (split vs tqs d) f i = cc
         go _ _ halts f i = cc
         go _ _ unlike f i = record {
@@ -165,7 +172,7 @@ module _ (p : Naming) (m : Memory) (names : Names p m) where
         go : (t2 : Turn) (st2 : Step) → TurnIs p m names bs (s ++ ts) t2 st2 → r.step ≡ st2 → t2 ≡ waits
             → UnifiesAs p m s ts rs ((a, b) ∷ tps) (words.stop rs')
         go _ _ idle f i = cc
-        go _ _ (bound bs2 v u a' x) f i = cc
+        go _ _ (bound bs2 v u a' n x) f i = cc
         go _ _ (split vs tqs d) f i = cc
         go _ _ unlike f i = cc
         go _ _ halts f i = record {

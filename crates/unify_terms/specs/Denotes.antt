@@ -118,11 +118,12 @@ module _ (p : Naming) (m : Memory) where
   abbrev pub HasPlace : Variable → Type 0
   HasPlace v = (a : ℕ) × IsPlace a v
 
-  -- where a unification is done, each variable that it left bound was bound before or is the name of a place
-  abbrev pub BindsNamed : Bindings → endings.Ended → Type 0
-  BindsNamed ts (endings.done us rs) = (v : Variable) (t : Term Variable) → find us v ≡ Some t → (find ts v ≡ Some t) ⊎ HasPlace v
-  BindsNamed ts (endings.clash rs) = Unit {0}
-  BindsNamed ts (endings.wait rs) = Unit {0}
+  -- where a unification over s is done, each variable that it bound was bound before, or is the name of a place and unbound in s
+  abbrev pub BindsNamed : Bindings → Bindings → endings.Ended → Type 0
+  BindsNamed s ts (endings.done us rs) = (v : Variable) (t : Term Variable) → find us v ≡ Some t
+      → (find ts v ≡ Some t) ⊎ (HasPlace v × (find s v ≡ None))
+  BindsNamed s ts (endings.clash rs) = Unit {0}
+  BindsNamed s ts (endings.wait rs) = Unit {0}
 
   -- the definitions unify the pairs so, by some number of steps
   pub record UnifiesAs (s ts : Bindings) (rs : List ℕ) (ps : List Pair) (e : words.Ended) : Type 0 where
@@ -130,7 +131,7 @@ module _ (p : Naming) (m : Memory) where
     pub end : endings.Ended
     pub by_steps : unify steps s ts (map p.name rs) ps ≡ Some end
     pub alike : EndsAs s e end
-    pub named : BindsNamed ts end
+    pub named : BindsNamed s ts end
 
 -- Wherever the pairs stand for pairs of terms, and the bindings with the memory for a map, the definitions unify the
 -- terms over that map, by some number of steps, as the words were.
