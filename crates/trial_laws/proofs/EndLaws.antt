@@ -67,8 +67,8 @@ module _ (w : Words) (vs : Addresses) (bound : Bindings) (r : AtHand) (t : Tryin
       go : (o : Option ℕ) → word_at r.binds c ≡ o → word_at r.binds c ≡ None
       go None i = i
       go (Some x) i =
-          absurd (let p = s.binds_open c x i in let h : p.0 ≡ y = same_Some _ _ (sym p.1 ∙ e) in
-          true≢false (sym f ∙ (ap is_final_word (sym h) ∙ p.2)))
+          absurd (let p = s.binds_open c x i in let h : p.1.0 ≡ y = same_Some _ _ (sym p.1.1 ∙ e) in
+          true≢false (sym f ∙ (ap is_final_word (sym h) ∙ ap is_final_in p.1.2)))
 
   grows : Grows (with_own r.pieces w) (with_own (settled r.binds 4000000000 r.pieces) w)
   grows c y e f = ⊎_elim own_one (λ i. store_word w ps c y (store.low c y i) i) (either_word w r.pieces c y e)

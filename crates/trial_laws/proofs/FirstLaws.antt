@@ -8,7 +8,8 @@ use Rattle.fcp_model.specs.Terms.{Term, Bindings, find}
 use Rattle.fcp_model.proofs.Finding.{found_or, find-append, is_same-true, is_same_refl}
 use Rattle.heap_words.specs.Cells.{is_final_word, is_final_in}
 use Rattle.heap_words.specs.Trails.{word_at}
-use Rattle.word_states.specs.Words.{Words, first_of, over, Grows}
+use Rattle.heap_words.specs.declared.cell.Cell.TheVariants.{Unbound}
+use Rattle.word_states.specs.Words.{Words, At, first_of, over, Grows}
 use Rattle.word_states.specs.Denoting.{Addresses, Listed, Denotes}
 use Rattle.word_states.specs.Standing.{PlaceSays}
 use Rattle.word_states.specs.Pieces.{rows, StartsAt, place_words, numbered, with_own, with_variables}
@@ -197,10 +198,10 @@ module _ (w : Words) (vs : Addresses) (bound : Bindings) (r : AtHand) (t : Tryin
           (λ g. let same : v ≡ own k = (names_once w vs bound r.pieces store v (own k) a (suc at) h' own_listed).1 g in
           true≢false (sym (is_same_refl (own k)) ∙ (ap (is_same (own k)) (sym same) ∙ e)))
 
-  open_on : (a y : ℕ) → word_at r.binds a ≡ Some y → (z : ℕ) × (with_own ps w a ≡ Some z) × (is_final_word z ≡ false)
+  open_on : (a y : ℕ) → word_at r.binds a ≡ Some y → (e : ℕ) × At (with_own ps w) a (Unbound e)
   open_on a y e =
       let p = s.binds_open a y e in
-      (p.0, other_word a p.0 (λ g. let h : None ≡ Some y = sym free ∙ (ap (word_at r.binds) (sym g) ∙ e) in cc) p.1, p.2)
+      (p.0, (p.1.0, other_word a p.1.0 (λ g. let h : None ≡ Some y = sym free ∙ (ap (word_at r.binds) (sym g) ∙ e) in cc) p.1.1, p.1.2))
 
   named_still : (v : Variable) (z : Term Variable) → find bs' v ≡ Some z
       → (find bound v ≡ None) × ((a : ℕ) × Listed (with_variables ps vs) v a)

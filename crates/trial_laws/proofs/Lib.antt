@@ -9,3 +9,7 @@ pub mod Settling
 pub mod Counting
 pub mod WaitLaws
 pub mod EndLaws
+pub mod Seen
+pub mod OpenLaws
+pub mod UnifyEnds
+pub mod UnifyLaws

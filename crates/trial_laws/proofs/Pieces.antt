@@ -14,7 +14,7 @@ use Rattle.word_states.specs.Pieces.{rows, StartsAt, is_place, is_process, place
 use Rattle.word_states.specs.Pieces.{a_wide, a_process, with_own}
 use Rattle.word_states.proofs.Persisting.{denotes_on, goal_on}
 use Rattle.word_states.proofs.Pieces.{in_rows, rows_in, rows_above, starts_above}
-use Rattle.trial_laws.specs.AtHand.{end_of, AreNamed, GoalsSay}
+use Rattle.trial_laws.specs.AtHand.{end_of, AreCalled, GoalsSay}
 
 pub starts_left : (b : ℕ) (ps qs : List (List ℕ)) (a : ℕ) (p : List ℕ) → StartsAt b ps a p → StartsAt b (ps ++ qs) a p
 starts_left b [] qs a p h = absurd h
@@ -146,7 +146,7 @@ goals_last u us [] (x ∷ gs) q g h k = absurd h
 goals_last u us (p ∷ qs) [] q g h k = absurd h
 
 pub named_on : (us us' : Addresses) → ((v : Variable) (a : ℕ) → Listed us v a → Listed us' v a) → (as' : List ℕ) (vs : List Variable)
-    → AreNamed us as' vs → AreNamed us' as' vs
+    → AreCalled us as' vs → AreCalled us' as' vs
 named_on us us' m [] [] h = tt
 named_on us us' m (a ∷ as') (v ∷ vs) h = (m v a h.0, named_on us us' m as' vs h.1)
 named_on us us' m [] (v ∷ vs) h = absurd h

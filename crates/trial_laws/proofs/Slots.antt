@@ -1,9 +1,10 @@
 -- The words of slots, and a word that is put into a slot.
-use Rattle.std.proofs.Common.{◌≡◌, ℕ, suc, ◌+◌, ◌<◌, ◌≤◌, Bool, true, false, cond, List, [], ◌∷◌, refl, sym, ap, ◌∙◌, subst, inl, inr, arith, Some}
+use Rattle.std.proofs.Common.{◌≡◌, ℕ, suc, ◌+◌, ◌<◌, ◌≤◌, Bool, true, false, cond, List, [], ◌∷◌, refl, sym, ap, ◌∙◌, subst, inl, inr, arith, Option, Some}
 use Rattle.std.specs.Prelude.{slice_get, nat_eq}
 use Rattle.fcp_model.specs.Places.{Variable, own}
 use Rattle.fcp_model.specs.Terms.{Term, number, string, nil, cons, tuple, var, ro, first, Bindings}
 use Rattle.fcp_model.specs.Expressions.{Expr, leaf, op}
+use Rattle.fcp_model.proofs.MoreSteps.{Grows, at_least}
 use Rattle.heap_words.specs.Cells.{decoded}
 use Rattle.heap_words.specs.declared.cell.Cell.TheVariants.{Ref, RoRef, Small, Wide, Str, Nil, Cons, Tuple, Raw}
 use Rattle.heap_words.proofs.Encodings.{decoded_encoded}
@@ -13,8 +14,10 @@ use Rattle.word_states.specs.Pieces.{StartsAt, place_words, numbered, with_own, 
 use Rattle.word_states.proofs.Pieces.{located_starts, variable_at, the_place}
 use Rattle.machine_code.specs.Slots.{as_term}
 use Rattle.machine_code.specs.Instructions.{Op}
-use Rattle.machine_code.specs.Machine.{Trying, Meaning, follow, obey, put_in}
+use Rattle.machine_code.specs.Machine.{Trying, Meaning, Go, given, follow, obey, put_in}
+use Rattle.machine_code.proofs.Follows.{follow_more}
 use Rattle.trial_laws.specs.AtHand.{AtHand, term_word, is_operator, end_of, ArePieces, StandsForTry, Gives}
+use Rattle.trial_laws.specs.Laws.{holding}
 use Rattle.trial_laws.proofs.Pieces.{starts_below}
 
 -- one instruction more
@@ -24,15 +27,22 @@ pub step : (s : Bindings) (ops : List Op) (args : List (Term Variable)) (at at' 
 step s ops args at at' t t' o d e same g =
     (suc g.0, ap (obey (follow g.0 s ops args) g.0 s args at t) e ∙ (same g.0 ∙ g.1))
 
+-- One instruction more that asks for a value in a bounded number of steps.
+pub step_given : {X : Type 0} (s : Bindings) (ops : List Op) (args : List (Term Variable)) (at at' : ℕ) (t t' : Trying) (o : Op)
+    (f : ℕ → Option X) (h : Go → X → Option Meaning) (x : X) (d : Meaning) → slice_get ops at ≡ Some o → Grows f
+    → ((n : ℕ) → obey (follow n s ops args) n s args at t (Some o) ≡ given (f n) (h (follow n s ops args)))
+    → ((n : ℕ) → h (follow n s ops args) x ≡ follow n s ops args at' t') → (k : ℕ) → f k ≡ Some x → Gives s ops args at' t' d
+    → Gives s ops args at t d
+step_given s ops args at at' t t' o f h x d e grows asks same k is g = (
+  suc (k + g.0),
+  ap (obey (follow (k + g.0) s ops args) (k + g.0) s args at t) e
+      ∙ (asks (k + g.0)
+      ∙ (ap (λ z. given z (h (follow (k + g.0) s ops args))) (at_least f grows k (k + g.0) (omega arith) x is)
+      ∙ (same (k + g.0) ∙ at_least (λ n. follow n s ops args at' t') (follow_more s ops args at' t') g.0 (k + g.0) (omega arith) d g.1))),
+)
+
 pub nil_is : decoded 6 ≡ Some Nil
 nil_is = decoded_encoded Nil tt
-
--- a slot with another word, which is an operator's or not
-abbrev pub holding : AtHand → ℕ → ℕ → Bool → AtHand
-holding r i x o = record r {
-  slots = λ j. cond (nat_eq j i) x (r.slots j);
-  operators = λ j. cond (nat_eq j i) o (r.operators j);
-}
 
 -- the word says what the slot is to hold
 pub put_stands : (w : Words) (vs : Addresses) (bound : Bindings) (r : AtHand) (t : Trying) (i x : ℕ) (u : Expr Variable)

@@ -8,7 +8,7 @@ use Rattle.word_states.specs.Denoting.{Addresses, Listed}
 use Rattle.word_states.specs.Pieces.{place_words, numbered, with_variables}
 use Rattle.word_states.proofs.Lists.{listed_either}
 use Rattle.word_states.proofs.Pieces.{variable_at, located_starts, starts_above}
-use Rattle.trial_laws.specs.AtHand.{IsAmong, AreNamed, ArePlacesAmong, IsStore}
+use Rattle.trial_laws.specs.AtHand.{IsAmong, AreCalled, ArePlacesAmong, IsStore}
 use Rattle.trial_laws.specs.Laws.{AreNoted}
 
 among_left : (us vs : List Variable) (v : Variable) → IsAmong us v → IsAmong (us ++ vs) v
@@ -26,7 +26,7 @@ among_either (u ∷ us) vs v (inl e) = inl (inl e)
 among_either (u ∷ us) vs v (inr h) = ⊎_elim (λ i. inl (inr i)) (λ i. inr i) (among_either us vs v h)
 
 -- a place among the variables has its address among the addresses, and the other way round
-address_of : (us : Addresses) (rs : List ℕ) (qs : List Variable) (v : Variable) → AreNamed us rs qs → IsAmong qs v
+address_of : (us : Addresses) (rs : List ℕ) (qs : List Variable) (v : Variable) → AreCalled us rs qs → IsAmong qs v
     → (a : ℕ) × Listed us v a × IsIn a rs
 address_of us [] [] v h i = absurd i
 address_of us (a ∷ rs) (q ∷ qs) v h (inl e) = (a, subst (λ (z : Variable). Listed us z a) e h.0, inl refl)
@@ -34,7 +34,7 @@ address_of us (a ∷ rs) (q ∷ qs) v h (inr i) = let k = address_of us rs qs v 
 address_of us [] (q ∷ qs) v h i = absurd h
 address_of us (a ∷ rs) [] v h i = absurd h
 
-name_of : (us : Addresses) (rs : List ℕ) (qs : List Variable) (a : ℕ) → AreNamed us rs qs → IsIn a rs
+name_of : (us : Addresses) (rs : List ℕ) (qs : List Variable) (a : ℕ) → AreCalled us rs qs → IsIn a rs
     → (v : Variable) × Listed us v a × IsAmong qs v
 name_of us [] [] a h i = absurd i
 name_of us (b ∷ rs) (q ∷ qs) a h (inl e) = (q, subst (λ (z : ℕ). Listed us q z) e h.0, inl refl)
@@ -65,7 +65,7 @@ module _ (w : Words) (vs : Addresses) (bound : Bindings) (ps : List (List ℕ)) 
 
   -- what one try more has read
   pub read_among : (waits waits' rs : List ℕ) (us qs : List Variable) → ArePlacesAmong vs waits us
-      → AreNamed (with_variables ps vs) rs qs → AreNoted waits rs waits' → ArePlacesAmong vs waits' (us ++ qs)
+      → AreCalled (with_variables ps vs) rs qs → AreNoted waits rs waits' → ArePlacesAmong vs waits' (us ++ qs)
   read_among waits waits' rs us qs were named noted = record {
     all = λ j h. ⊎_elim (λ i. let k = were.all j i in (k.0, k.1, (noted k.0).1 (inl k.2))) (λ i. new j i) (among_either us qs (made j) h);
     only = λ a i. ⊎_elim (λ k. let o = were.only a k in (o.0, o.1, among_left us qs (made o.0) o.2)) (λ k. read a k.0 k.1) ((noted a).0 i);

@@ -6,9 +6,9 @@ use Rattle.fcp_model.specs.Terms.{Term, Bindings, find}
 use Rattle.fcp_model.specs.Expressions.{Expr, leaf, op}
 use Rattle.fcp_model.specs.Programs.{Goal}
 use Rattle.fcp_model.specs.Reads.{BindsPlaces}
-use Rattle.heap_words.specs.Cells.{is_final_word}
 use Rattle.heap_words.specs.Trails.{WordList, word_at}
-use Rattle.word_states.specs.Words.{Words, over, IsIn}
+use Rattle.heap_words.specs.declared.cell.Cell.TheVariants.{Unbound}
+use Rattle.word_states.specs.Words.{Words, At, over, IsIn}
 use Rattle.word_states.specs.Denoting.{Addresses, Listed, ExprSays, GoalSays}
 use Rattle.word_states.specs.Standing.{PlacesStand, PlaceSays}
 use Rattle.word_states.specs.Pieces.{StartsAt, process_words, IsPiece, with_own, with_variables}
@@ -49,10 +49,10 @@ pub record ArePieces (ps : List (List ℕ)) : Type 0 where
   pub few : end_of 4000000000 ps ≤ 0x100000000
 
 -- the places at these addresses are these variables, one by one
-abbrev pub AreNamed : Addresses → List ℕ → List Variable → Type 0
-AreNamed vs [] [] = Unit {0}
-AreNamed vs (a ∷ as') (v ∷ us) = Listed vs v a × AreNamed vs as' us
-AreNamed vs _ _ = ⊥
+abbrev pub AreCalled : Addresses → List ℕ → List Variable → Type 0
+AreCalled vs [] [] = Unit {0}
+AreCalled vs (a ∷ as') (v ∷ us) = Listed vs v a × AreCalled vs as' us
+AreCalled vs _ _ = ⊥
 
 -- the variable is one of these
 abbrev pub IsAmong : List Variable → Variable → Type 0
@@ -91,12 +91,11 @@ pub record StandsForTry (w : Words) (vs : Addresses) (bound : Bindings) (r : AtH
   -- what the try bound is bound in its state, at a place that was not bound before; and its state binds no more
   pub binds_named : (a x : ℕ) → word_at r.binds a ≡ Some x
       → (v : Variable) × (u : Term Variable) × Listed (with_variables r.pieces vs) v a × (find t.bound v ≡ Some u)
-  pub binds_open : (a x : ℕ) → word_at r.binds a ≡ Some x
-      → (y : ℕ) × (with_own r.pieces w a ≡ Some y) × (is_final_word y ≡ false)
+  pub binds_open : (a x : ℕ) → word_at r.binds a ≡ Some x → (e : ℕ) × At (with_own r.pieces w) a (Unbound e)
   pub bound_named : (v : Variable) (u : Term Variable) → find t.bound v ≡ Some u
       → (find bound v ≡ None) × ((a : ℕ) × Listed (with_variables r.pieces vs) v a)
   -- what it read, in order, and the places that the tries before it read
-  pub reads : AreNamed (with_variables r.pieces vs) r.reads t.read
+  pub reads : AreCalled (with_variables r.pieces vs) r.reads t.read
   pub waits : ArePlacesAmong vs r.waits t.earlier
   -- its children, in order
   pub children : GoalsSay (with_own r.pieces w) (with_variables r.pieces vs) (process_words 4000000000 r.pieces) t.children

@@ -12,15 +12,18 @@ use Rattle.word_states.specs.Pieces.{StartsAt, place_words, process_words, numbe
 use Rattle.machine_code.specs.Slots.{arguments}
 use Rattle.machine_code.specs.Instructions.{Op, Try, GetFirst, PutVar, PutWord, PutCons, Jump}
 use Rattle.machine_code.specs.Machine.{Trying, untried}
-use Rattle.trial_laws.specs.AtHand.{AtHand, term_word, end_of, ArePieces, AreNamed, IsStore, StandsForTry, Leads}
+use Rattle.trial_laws.specs.AtHand.{AtHand, term_word, end_of, ArePieces, AreCalled, IsStore, StandsForTry, Leads}
+
+-- a slot takes a word, which is an operator's or not
+abbrev pub holding : AtHand → ℕ → ℕ → Bool → AtHand
+holding r i x o = record r {
+  slots = λ j. if nat_eq j i then x else r.slots j;
+  operators = λ j. if nat_eq j i then o else r.operators j;
+}
 
 -- a slot takes a term's word; pieces may have been put after the others
 abbrev pub filled : AtHand → ℕ → ℕ → List (List ℕ) → AtHand
-filled r i x ps = record r {
-  slots = λ j. if nat_eq j i then x else r.slots j;
-  operators = λ j. if nat_eq j i then false else r.operators j;
-  pieces = ps;
-}
+filled r i x ps = holding (record r { pieces = ps }) i x false
 
 -- the word of the own place after s, which was not bound, has become x
 pub record IsFilled (s x : ℕ) (ps ps' : List (List ℕ)) : Type 0 where
@@ -128,5 +131,5 @@ after_leave t behind qs = record t { behind = behind; earlier = t.earlier ++ qs;
 -- A try ends without success after it read these places.
 abbrev pub LawOfLeaving : Type 0
 LawOfLeaving = Always (λ w vs bound ops args at r t. (behind : Bool) (rs : List ℕ) (qs : List Variable) (waits : List ℕ)
-    → AreNamed (with_variables r.pieces vs) rs qs → AreNoted r.waits rs waits
+    → AreCalled (with_variables r.pieces vs) rs qs → AreNoted r.waits rs waits
     → StandsForTry w vs bound (left r behind waits) (after_leave t behind qs))

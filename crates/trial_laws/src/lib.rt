@@ -3,6 +3,8 @@
 
 ghost use Rattle.trial_laws.specs.Laws.{LawOfStart, LawOfTry, LawOfLeaving, LawOfJump, LawOfFirst};
 ghost use Rattle.trial_laws.specs.Laws.{LawOfVariable, LawOfReadOnly, LawOfConstant, LawOfPair};
+ghost use Rattle.trial_laws.specs.Opening.{LawOfPairOpened, LawOfNoPair, LawOfTupleOpened, LawOfNoTuple};
+ghost use Rattle.trial_laws.specs.Unifying.{LawOfUnify, LawOfClash, LawOfPause};
 ghost use Rattle.trial_laws.specs.Endings.{LawOfCommit, LawOfFail, LawOfWait};
 
 /// A trial and a try begin, and a try is left.
@@ -24,6 +26,21 @@ pub fn puts()
 /// A variable takes a term at its first occurrence.
 pub fn gets()
     ensures first_ { LawOfFirst }
+{}
+
+/// A value is opened, or goes on to where the term is put.
+pub fn opens()
+    ensures pair { LawOfPairOpened }
+    ensures no_pair { LawOfNoPair }
+    ensures tuple { LawOfTupleOpened }
+    ensures no_tuple { LawOfNoTuple }
+{}
+
+/// Two slots are unified.
+pub fn unifies()
+    ensures done { LawOfUnify }
+    ensures clash { LawOfClash }
+    ensures pause { LawOfPause }
 {}
 
 /// A trial ends.
