@@ -53,30 +53,6 @@ module _ (before : WordList) (m : Memory) where
   was_open : (bs : WordList) (a : ℕ) → Keeps bs → IsOpen bs m a → Was a
   was_open bs a k o = (k a o.0, o.1)
 
-  occurs_open : (bs : WordList) (p : ℕ) (ws rs : List ℕ) (f : Found) → Keeps bs → Occurs bs m p ws rs f → Each Was rs
-      → Each Was (reads_found f)
-  occurs_open bs p _ _ _ k (at_end rs) h = h
-  occurs_open bs p _ _ _ k (here w ws rs l a v o t) h = each_end Was rs a h (was_open bs a k (values_open bs m false w l a v o))
-  occurs_open bs p _ _ _ k (leaf w ws rs l a f v o t r) h =
-      occurs_open bs p ws (rs ++ a ∷ []) f k r (each_end Was rs a h (was_open bs a k (values_open bs m false w l a v o)))
-  occurs_open bs p _ _ _ k (node w ws rs x f v r) h = occurs_open bs p _ rs f k r h
-
-  look_open : (bs : WordList) (w : ℕ) (l : Look) (rs : List ℕ) → Keeps bs → Values bs m false w l → Each Was rs
-      → Each Was (rs ++ look_reads l)
-  look_open bs w (Writable a) rs k v h = each_end Was rs a h (was_open bs a k (values_open bs m false w (Writable a) a v refl))
-  look_open bs w (ReadOnly a) rs k v h = each_end Was rs a h (was_open bs a k (values_open bs m false w (ReadOnly a) a v refl))
-  look_open bs w (Solid x) rs k v h = subst (Each Was) (sym (append-nil rs)) h
-
-  does_read : (bs : WordList) (rs rs' : List ℕ) (mv : Move) (t : Turn) → Keeps bs → Does bs m rs mv t rs' → Each Was rs → Each Was rs'
-  does_read bs rs _ _ _ k nothing h = h
-  does_read bs rs _ _ _ k wait h = h
-  does_read bs rs _ _ _ k (order p q) h = h
-  does_read bs rs _ _ _ k (bind p q) h = h
-  does_read bs rs _ _ _ k (found p x rs' o) h = occurs_open bs p (x ∷ []) rs (hit rs') k o h
-  does_read bs rs _ _ _ k (absent p x rs' o) h = occurs_open bs p (x ∷ []) rs (miss rs') k o h
-  does_read bs rs _ _ _ k (same x y qs e) h = h
-  does_read bs rs _ _ _ k (other x y e) h = h
-
   -- bindings that went on
   abbrev Grew : WordList → Type 0
   Grew bs = Keeps bs × Since before m bs
@@ -111,11 +87,6 @@ module _ (before : WordList) (m : Memory) where
   does_bind bs rs _ _ _ bs' qs r g (same x y ps h) e = subst Grew (let i : bs ≡ bs' = cc in i) g
   does_bind bs rs _ _ _ bs' qs r g (other x y h) e = cc
 
-  treats_read : (bs : WordList) (rs rs' : List ℕ) (p : ℕ × ℕ) (t : Turn) → Keeps bs → Treats bs m rs p t rs' → Each Was rs → Each Was rs'
-  treats_read bs rs rs' p t k d h =
-      does_read bs ((rs ++ look_reads d.left) ++ look_reads d.right) rs' (moved d.left d.right) t k d.does
-      (look_open bs p.1 d.right (rs ++ look_reads d.left) k d.right_is (look_open bs p.0 d.left rs k d.left_is h))
-
   treats_bind : (bs : WordList) (rs rs' : List ℕ) (p : ℕ × ℕ) (bs' : WordList) (qs : List (ℕ × ℕ)) → Grew bs
       → Treats bs m rs p (goes bs' qs) rs' → Grew bs'
   treats_bind bs rs rs' p bs' qs g d =
@@ -123,15 +94,56 @@ module _ (before : WordList) (m : Memory) where
       (are_ready (λ _. Unit {0}) bs m d.left d.right tt tt (open_look bs m p.0 d.left d.left_is)
       (open_look bs m p.1 d.right d.right_is)) g d.does refl
 
-  unifies_open : (bs : WordList) (rs : List ℕ) (ps : List (ℕ × ℕ)) (e : Ended) → Grew bs → Each Was rs → Unifies m bs rs ps e
-      → Each Was (reads_ended e) × BindsOpen before m e
-  unifies_open _ _ _ _ g h (unify.at_end bs rs) = (h, g.1)
-  unifies_open _ _ _ _ g h (on bs rs p ps bs' qs rs' e t u) =
-      unifies_open bs' rs' (qs ++ ps) e (treats_bind bs rs rs' p bs' qs g t) (treats_read bs rs rs' p (goes bs' qs) g.0 t h) u
-  unifies_open _ _ _ _ g h (clashed bs rs p ps rs' t) = (treats_read bs rs rs' p clashes g.0 t h, tt)
-  unifies_open _ _ _ _ g h (stopped bs rs p ps rs' t) = (treats_read bs rs rs' p waits g.0 t h, tt)
+  unifies_bind : (bs : WordList) (rs : List ℕ) (ps : List (ℕ × ℕ)) (e : Ended) → Grew bs → Unifies m bs rs ps e → BindsOpen before m e
+  unifies_bind _ _ _ _ g (unify.at_end bs rs) = g.1
+  unifies_bind _ _ _ _ g (on bs rs p ps bs' qs rs' e t u) = unifies_bind bs' rs' (qs ++ ps) e (treats_bind bs rs rs' p bs' qs g t) u
+  unifies_bind _ _ _ _ g (clashed bs rs p ps rs' t) = tt
+  unifies_bind _ _ _ _ g (stopped bs rs p ps rs' t) = tt
 
--- Where the reads so far were unbound, those of a unification were too, and so were the places that it bound where it is done.
-pub was_unbound : (m : Memory) (bs : WordList) (rs : List ℕ) (ps : List (ℕ × ℕ)) (e : Ended) → Unifies m bs rs ps e → Each (IsOpen bs m) rs
-    → Each (IsOpen bs m) (reads_ended e) × BindsOpen bs m e
-was_unbound m bs rs ps e u h = unifies_open bs m bs rs ps e (λ a i. i, λ a x i. inl i) h u
+  -- what is so of each unbound place, and was of the reads so far, is so of all reads
+  module _ (P : ℕ → Type 0) (opens : (a : ℕ) → IsOpen before m a → P a) where
+    occurs_open : (bs : WordList) (p : ℕ) (ws rs : List ℕ) (f : Found) → Keeps bs → Occurs bs m p ws rs f → Each P rs
+        → Each P (reads_found f)
+    occurs_open bs p _ _ _ k (at_end rs) h = h
+    occurs_open bs p _ _ _ k (here w ws rs l a v o t) h = each_end P rs a h (opens a (was_open bs a k (values_open bs m false w l a v o)))
+    occurs_open bs p _ _ _ k (leaf w ws rs l a f v o t r) h =
+        occurs_open bs p ws (rs ++ a ∷ []) f k r (each_end P rs a h (opens a (was_open bs a k (values_open bs m false w l a v o))))
+    occurs_open bs p _ _ _ k (node w ws rs x f v r) h = occurs_open bs p _ rs f k r h
+
+    look_open : (bs : WordList) (w : ℕ) (l : Look) (rs : List ℕ) → Keeps bs → Values bs m false w l → Each P rs
+        → Each P (rs ++ look_reads l)
+    look_open bs w (Writable a) rs k v h = each_end P rs a h (opens a (was_open bs a k (values_open bs m false w (Writable a) a v refl)))
+    look_open bs w (ReadOnly a) rs k v h = each_end P rs a h (opens a (was_open bs a k (values_open bs m false w (ReadOnly a) a v refl)))
+    look_open bs w (Solid x) rs k v h = subst (Each P) (sym (append-nil rs)) h
+
+    does_read : (bs : WordList) (rs rs' : List ℕ) (mv : Move) (t : Turn) → Keeps bs → Does bs m rs mv t rs' → Each P rs → Each P rs'
+    does_read bs rs _ _ _ k nothing h = h
+    does_read bs rs _ _ _ k wait h = h
+    does_read bs rs _ _ _ k (order p q) h = h
+    does_read bs rs _ _ _ k (bind p q) h = h
+    does_read bs rs _ _ _ k (found p x rs' o) h = occurs_open bs p (x ∷ []) rs (hit rs') k o h
+    does_read bs rs _ _ _ k (absent p x rs' o) h = occurs_open bs p (x ∷ []) rs (miss rs') k o h
+    does_read bs rs _ _ _ k (same x y qs e) h = h
+    does_read bs rs _ _ _ k (other x y e) h = h
+
+    treats_read : (bs : WordList) (rs rs' : List ℕ) (p : ℕ × ℕ) (t : Turn) → Keeps bs → Treats bs m rs p t rs' → Each P rs → Each P rs'
+    treats_read bs rs rs' p t k d h =
+        does_read bs ((rs ++ look_reads d.left) ++ look_reads d.right) rs' (moved d.left d.right) t k d.does
+        (look_open bs p.1 d.right (rs ++ look_reads d.left) k d.right_is (look_open bs p.0 d.left rs k d.left_is h))
+
+    unifies_read : (bs : WordList) (rs : List ℕ) (ps : List (ℕ × ℕ)) (e : Ended) → Grew bs → Each P rs → Unifies m bs rs ps e
+        → Each P (reads_ended e)
+    unifies_read _ _ _ _ g h (unify.at_end bs rs) = h
+    unifies_read _ _ _ _ g h (on bs rs p ps bs' qs rs' e t u) =
+        unifies_read bs' rs' (qs ++ ps) e (treats_bind bs rs rs' p bs' qs g t) (treats_read bs rs rs' p (goes bs' qs) g.0 t h) u
+    unifies_read _ _ _ _ g h (clashed bs rs p ps rs' t) = treats_read bs rs rs' p clashes g.0 t h
+    unifies_read _ _ _ _ g h (stopped bs rs p ps rs' t) = treats_read bs rs rs' p waits g.0 t h
+
+-- The places that a unification bound, where it is done, were unbound before.
+pub bound_open : (m : Memory) (bs : WordList) (rs : List ℕ) (ps : List (ℕ × ℕ)) (e : Ended) → Unifies m bs rs ps e → BindsOpen bs m e
+bound_open m bs rs ps e u = unifies_bind bs m bs rs ps e (λ a i. i, λ a x i. inl i) u
+
+-- What is so of each place that was unbound before, and of the reads so far, is so of all reads.
+pub reads_so : (m : Memory) (bs : WordList) (rs : List ℕ) (ps : List (ℕ × ℕ)) (e : Ended) (P : ℕ → Type 0)
+    → ((a : ℕ) → IsOpen bs m a → P a) → Unifies m bs rs ps e → Each P rs → Each P (reads_ended e)
+reads_so m bs rs ps e P opens u h = unifies_read bs m P opens bs rs ps e (λ a i. i, λ a x i. inl i) h u

@@ -118,7 +118,7 @@ fn push_pairs_after<W: Words>(
 }
 
 /// Puts the pairs of the parts of two words on the work list, where the words are alike.
-pub(crate) fn push_alike<W: Words>(
+pub fn push_alike<W: Words>(
     trail: &mut Trail,
     words: &mut W,
     work: &mut Vec<(u64, u64)>,

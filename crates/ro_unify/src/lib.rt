@@ -11,7 +11,8 @@ mod table;
 mod tests;
 mod unification;
 
+pub use alike::push_alike;
 pub use look::{Look, deref};
 pub use occurrence::Whole;
 pub use table::Move;
-pub use unification::{Unified, WorkLists, unify};
+pub use unification::{Unified, WorkLists, note_look, two_values, unify};

@@ -226,7 +226,7 @@ fn turn<W: Words>(
 }
 
 /// Notes the place of an unbound value.
-fn note_look(trail: &mut Trail, look: Look) -> Result<(), NoMemory>
+pub fn note_look(trail: &mut Trail, look: Look) -> Result<(), NoMemory>
     ensures binds { trail.new.binds ≡ trail.old.binds }
     ensures kept { trail.new.kept ≡ trail.old.kept }
     ensures reads { OnOk result (trail.new.reads.items ≡ trail.old.reads.items ++ look_reads look) }
@@ -245,7 +245,7 @@ fn note_look(trail: &mut Trail, look: Look) -> Result<(), NoMemory>
 }
 
 /// The values of two words, whose unbound places are noted as read.
-fn two_values<W: Words>(
+pub fn two_values<W: Words>(
     trail: &mut Trail,
     words: &mut W,
     left: u64,

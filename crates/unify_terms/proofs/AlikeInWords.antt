@@ -10,6 +10,7 @@ use Rattle.heap_words.specs.Trails.{Memory}
 use Rattle.heap_words.specs.declared.cell.Cell.{Cell}
 use Rattle.heap_words.specs.declared.cell.Cell.TheVariants as cell
 use Rattle.ro_unify.specs.Occurs.{whole_of, count_of}
+use Rattle.ro_unify.specs.Value.{leads_on}
 use Rattle.ro_unify.specs.declared.occurrence.Whole.{Whole}
 use Rattle.ro_unify.specs.declared.occurrence.Whole.TheVariants as whole
 use Rattle.ro_unify.specs.Alike.{alike, alike_as, pairs_after, same_atoms, same_wides, wide_of}
@@ -42,6 +43,18 @@ is_plain (var q) = false
 is_plain (ro q) = false
 is_plain (first k) = false
 is_plain _ = true
+
+-- a word that is no reference stands for no variable
+pub plain_is : (p : Naming) (m : Memory) (x : ℕ) (u : Term Variable) → leads_on false (decoded x) ≡ None → Denotes p m u x
+    → is_plain u ≡ true
+plain_is p m x (number z) e d = refl
+plain_is p m x (string n) e d = refl
+plain_is p m x nil e d = refl
+plain_is p m x (cons u w) e d = refl
+plain_is p m x (tuple ts) e d = refl
+plain_is p m x (var v) e d = absurd (let h : Some (false, d.0) ≡ None = sym (ap (leads_on false) d.1) ∙ e in cc)
+plain_is p m x (ro v) e d = absurd (let h : Some (true, d.0) ≡ None = sym (ap (leads_on false) d.1) ∙ e in cc)
+plain_is p m x (first k) e d = absurd d
 
 -- what the words and the terms come to
 pub data SameAlike (p : Naming) (m : Memory) : Option (List (ℕ × ℕ)) → Option (List Pair) → Type 0 where

@@ -2,11 +2,11 @@
 use Rattle.std.proofs.Common.{◌≡◌, ℕ, ◌-◌, ◌≤◌, Bool, true, false, cond, List, [], ◌∷◌, ◌++◌, map, Option}
 use Rattle.std.proofs.Common.{Some, None, refl, sym, ap, ◌∙◌, subst, append_assoc, append-nil}
 use Rattle.std.specs.Prelude.{nat_eq}
-use Rattle.heap_words.specs.Cells.{decoded, encoded}
+use Rattle.heap_words.specs.Cells.{encoded}
 use Rattle.heap_words.specs.Trails.{WordList, Memory}
 use Rattle.heap_words.specs.declared.cell.Cell.TheVariants as cell
 use Rattle.heap_words.proofs.Encodings.{decoded_encoded}
-use Rattle.ro_unify.specs.Value.{Values, IsOpen, leads_on}
+use Rattle.ro_unify.specs.Value.{Values, IsOpen}
 use Rattle.ro_unify.specs.Occurs.{Occurs, hit, miss}
 use Rattle.ro_unify.specs.Occurs as words
 use Rattle.ro_unify.specs.Alike.{alike}
@@ -17,7 +17,7 @@ use Rattle.ro_unify.specs.declared.look.Look.{Look}
 use Rattle.ro_unify.specs.declared.look.Look.TheVariants as look
 use Rattle.ro_unify.proofs.Chains.{values_open, value_no_ref}
 use Rattle.fcp_model.specs.Places.{Variable, is_same, is_older}
-use Rattle.fcp_model.specs.Terms.{Term, number, string, nil, cons, tuple, var, ro, first, none, more, Bindings}
+use Rattle.fcp_model.specs.Terms.{Term, var, ro, none, more, Bindings, find}
 use Rattle.fcp_model.specs.Value.{writable, read_only, solid, value}
 use Rattle.fcp_model.specs.Value as terms
 use Rattle.fcp_model.specs.Occurs.{occurs}
@@ -26,9 +26,9 @@ use Rattle.fcp_model.specs.Pair.{Pair, Step, binds, parts, compare, part_step, T
 use Rattle.fcp_model.specs.Pair.{bind_solid, table, both_looks, first_of, pair_on, pair}
 use Rattle.fcp_model.specs.Pair as pairs
 use Rattle.fcp_model.proofs.MoreSteps.{at_least, occurs_more}
-use Rattle.unify_terms.specs.Denotes.{Naming, Denotes, DenotesPairs, Stands, Names, IsPlace, LookIs}
+use Rattle.unify_terms.specs.Denotes.{Naming, Denotes, DenotesPairs, Stands, Names, IsPlace, HasPlace, LookIs}
 use Rattle.unify_terms.proofs.OccursInWords.{FoundIs, hits, misses, map_end, or_miss, occurs_so}
-use Rattle.unify_terms.proofs.AlikeInWords.{is_plain, SameAlike, neither, both, alike_so}
+use Rattle.unify_terms.proofs.AlikeInWords.{is_plain, plain_is, SameAlike, neither, both, alike_so}
 use Rattle.unify_terms.proofs.MovesInWords.{does_nothing, does_wait, does_order, does_bind, Checked, was_found, was_absent, does_check}
 use Rattle.unify_terms.proofs.MovesInWords.{Compared, were_alike, were_other, does_solids}
 use Rattle.unify_terms.proofs.BindingsInWords.{plain_same, stands_bound}
@@ -37,7 +37,9 @@ module _ (p : Naming) (m : Memory) (names : Names p m) where
   -- a turn of the words as a step of the terms, under bindings of places
   pub data TurnIs (bs : WordList) (s : Bindings) : Turn → Step → Type 0 where
     idle : TurnIs bs s (goes bs []) pairs.nothing
-    bound : (bs' : WordList) (v : Variable) (t : Term Variable) → Stands p m bs' (s ++ (v, t) ∷ []) → TurnIs bs s (goes bs' []) (binds v t)
+    bound : (bs' : WordList) (v : Variable) (t : Term Variable) → HasPlace p m v → find s v ≡ None
+        → Stands p m bs' (s ++ (v, t) ∷ [])
+        → TurnIs bs s (goes bs' []) (binds v t)
     split : (qs : List (ℕ × ℕ)) (ts : List Pair) → DenotesPairs p m ts qs → TurnIs bs s (goes bs qs) (parts ts)
     unlike : TurnIs bs s clashes pairs.clashes
     halts : TurnIs bs s waits pairs.waits
@@ -102,7 +104,8 @@ module _ (p : Naming) (m : Memory) (names : Names p m) where
           treats = λ n _. g n;
           read = ap (map p.name) e.1 ∙ f;
           is = subst (λ (z : Turn). TurnIs bs s z (binds v u)) (sym e.0)
-              (bound (bs ++ (a, x) ∷ []) v u (stands_bound p m names bs s a x v u st i h n d));
+              (bound (bs ++ (a, x) ∷ []) v u (a, (h, n)) (subst (λ (z : Variable). find s z ≡ None) n (st.unbound a h i.0 i.1))
+              (stands_bound p m names bs s a x v u st i h n d));
         }
 
     ref_denotes : (a : ℕ) (v : Variable) → IsPlace p m a v → Denotes p m (var v) (encoded (cell.Ref a))
@@ -265,7 +268,8 @@ module _ (p : Naming) (m : Memory) (names : Names p m) where
               (λ (z : Term Variable). treated (binds v z) (v ∷ k.0)) (plain_same p m names u x d));
           read = more_reads rs rs0 rs' v k.0 f k.2;
           is = subst (λ (z : Turn). TurnIs bs s z (binds v u)) (sym e)
-              (bound (bs ++ (a, x) ∷ []) v u (stands_bound p m names bs s a x v u st here i.0 i.1 d));
+              (bound (bs ++ (a, x) ∷ []) v u (a, i) (subst (λ (z : Variable). find s z ≡ None) i.1 (st.unbound a i.0 here.0 here.1))
+              (stands_bound p m names bs s a x v u st here i.0 i.1 d));
         }
 
     -- two words that are none
@@ -328,17 +332,6 @@ module _ (p : Naming) (m : Memory) (names : Names p m) where
         go _ _ neither k l = cc
         go _ _ (both ps ts z) k l = made ps ts z (let y : ps ≡ qs = cc in y) k
 
-    -- a value that is solid is no variable
-    plain_is : (x : ℕ) (u : Term Variable) → leads_on false (decoded x) ≡ None → Denotes p m u x → is_plain u ≡ true
-    plain_is x (number z) e d = refl
-    plain_is x (string n) e d = refl
-    plain_is x nil e d = refl
-    plain_is x (cons u w) e d = refl
-    plain_is x (tuple ts) e d = refl
-    plain_is x (var v) e d = absurd (let h : Some (false, d.0) ≡ None = sym (ap (leads_on false) d.1) ∙ e in cc)
-    plain_is x (ro v) e d = absurd (let h : Some (true, d.0) ≡ None = sym (ap (leads_on false) d.1) ∙ e in cc)
-    plain_is x (first k) e d = absurd d
-
     left_nil : (b : ℕ) (w : Variable) → p.name b ≡ w → map p.name ((rs ++ []) ++ b ∷ []) ≡ map p.name rs ++ w ∷ []
     left_nil b w e = ap (λ (z : List ℕ). map p.name (z ++ b ∷ [])) (append-nil rs) ∙ one_read rs b w e
 
@@ -369,8 +362,8 @@ module _ (p : Naming) (m : Memory) (names : Names p m) where
         is_halted (λ n. table n s (solid u) (read_only w)) ((rs ++ []) ++ b ∷ []) (w ∷ []) (does_wait bs m _ rs' move.Wait t d refl)
         (left_nil b w j.1) (λ n. refl)
     by_looks x y (look.Solid z) (look.Solid z') (solid u) (solid w) vx vy i j d =
-        solid_pair z z' u w (plain_is z u (value_no_ref bs m false x (look.Solid z) z vx refl) i)
-        (plain_is z' w (value_no_ref bs m false y (look.Solid z') z' vy refl) j) i j
+        solid_pair z z' u w (plain_is p m z u (value_no_ref bs m false x (look.Solid z) z vx refl) i)
+        (plain_is p m z' w (value_no_ref bs m false y (look.Solid z') z' vy refl) j) i j
         (does_solids bs m _ rs' (move.Solids z z') t z z' d refl)
     by_looks x y (look.Writable a) k (read_only v) h vx vy i j d = absurd i
     by_looks x y (look.Writable a) k (solid u) h vx vy i j d = absurd i

@@ -10,7 +10,7 @@ use Rattle.ro_unify.specs.declared.look.Look.TheVariants as look
 use Rattle.ro_unify.specs.declared.look.Step.TheVariants.{End, On}
 use Rattle.fcp_model.specs.Places.{Variable}
 use Rattle.fcp_model.specs.Terms.{Term, number, string, nil, cons, tuple, var, ro, first, Bindings, find}
-use Rattle.fcp_model.specs.Value.{writable, read_only, solid, value_of, through, open_place}
+use Rattle.fcp_model.specs.Value.{writable, read_only, solid, value, value_of, through, open_place}
 use Rattle.fcp_model.specs.Value as terms
 use Rattle.unify_terms.specs.Denotes.{Naming, Denotes, Stands, LookIs, HasValue, value_as, NumberIn}
 
@@ -27,6 +27,17 @@ no_place m only (cell.Tuple a) z e = refl
 no_place m only (cell.Status d) z e = refl
 no_place m only (cell.Raw k) z e = refl
 no_place m only (cell.Top a) z e = refl
+
+-- where no mark was met before, it is the value of the term
+pub value_is : (p : Naming) (m : Memory) (n : ℕ) (s : Bindings) (t : Term Variable) → value n s t ≡ value_as p m n s false t
+value_is p m n s (var q) = refl
+value_is p m n s (ro q) = refl
+value_is p m n s (first k) = refl
+value_is p m n s (number z) = refl
+value_is p m n s (string z) = refl
+value_is p m n s nil = refl
+value_is p m n s (cons t u) = refl
+value_is p m n s (tuple ts) = refl
 
 module _ (p : Naming) (bs : WordList) (m : Memory) (s : Bindings) (stands : Stands p m bs s) where
   -- a word that is no place ends at once

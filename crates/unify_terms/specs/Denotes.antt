@@ -1,5 +1,5 @@
 -- The terms for which words stand.
-use Rattle.std.specs.Prelude.{◌≡◌, ℕ, ◌+◌, ◌-◌, ◌*◌, ◌<◌, Bool, true, false, ℤ}
+use Rattle.std.specs.Prelude.{◌≡◌, ◌⊎◌, ℕ, ◌+◌, ◌-◌, ◌*◌, ◌<◌, Bool, true, false, ℤ}
 use Rattle.std.specs.Prelude.{List, [], ◌∷◌, ◌++◌, map, Option, Some, None, nat_eq}
 use Rattle.heap_words.specs.Cells.{decoded}
 use Rattle.heap_words.specs.Trails.{WordList, Memory, word_at}
@@ -114,12 +114,24 @@ module _ (p : Naming) (m : Memory) where
     clashed : (rs : List ℕ) → EndsAs s (words.clash rs) (endings.clash (map p.name rs))
     paused : (rs : List ℕ) → EndsAs s (words.stop rs) (endings.wait (map p.name rs))
 
+  -- the variable is the name of a place
+  abbrev pub HasPlace : Variable → Type 0
+  HasPlace v = (a : ℕ) × IsPlace a v
+
+  -- where a unification over s is done, each variable that it bound was bound before, or is the name of a place and unbound in s
+  abbrev pub BindsNamed : Bindings → Bindings → endings.Ended → Type 0
+  BindsNamed s ts (endings.done us rs) = (v : Variable) (t : Term Variable) → find us v ≡ Some t
+      → (find ts v ≡ Some t) ⊎ (HasPlace v × (find s v ≡ None))
+  BindsNamed s ts (endings.clash rs) = Unit {0}
+  BindsNamed s ts (endings.wait rs) = Unit {0}
+
   -- the definitions unify the pairs so, by some number of steps
   pub record UnifiesAs (s ts : Bindings) (rs : List ℕ) (ps : List Pair) (e : words.Ended) : Type 0 where
     pub steps : ℕ
     pub end : endings.Ended
     pub by_steps : unify steps s ts (map p.name rs) ps ≡ Some end
     pub alike : EndsAs s e end
+    pub named : BindsNamed s ts end
 
 -- Wherever the pairs stand for pairs of terms, and the bindings with the memory for a map, the definitions unify the
 -- terms over that map, by some number of steps, as the words were.

@@ -1,0 +1,15 @@
+pub mod Pieces
+pub mod Growing
+pub mod Slots
+pub mod TriedPlaces
+pub mod PutLaws
+pub mod TryLaws
+pub mod FirstLaws
+pub mod Settling
+pub mod Counting
+pub mod WaitLaws
+pub mod EndLaws
+pub mod Seen
+pub mod OpenLaws
+pub mod UnifyEnds
+pub mod UnifyLaws

@@ -1,0 +1,5 @@
+pub mod AtHand
+pub mod Laws
+pub mod Endings
+pub mod Opening
+pub mod Unifying

@@ -1,0 +1,51 @@
+//! What a trial has at hand stands for a state of the code's meaning: one law for each instruction.
+#![tactic(auto)]
+
+ghost use Rattle.trial_laws.specs.Laws.{LawOfStart, LawOfTry, LawOfLeaving, LawOfJump, LawOfFirst};
+ghost use Rattle.trial_laws.specs.Laws.{LawOfVariable, LawOfReadOnly, LawOfConstant, LawOfPair};
+ghost use Rattle.trial_laws.specs.Opening.{LawOfPairOpened, LawOfNoPair, LawOfTupleOpened, LawOfNoTuple};
+ghost use Rattle.trial_laws.specs.Unifying.{LawOfUnify, LawOfClash, LawOfPause};
+ghost use Rattle.trial_laws.specs.Endings.{LawOfCommit, LawOfFail, LawOfWait};
+
+/// A trial and a try begin, and a try is left.
+pub fn tries()
+    ensures start { LawOfStart }
+    ensures begins { LawOfTry }
+    ensures leaving { LawOfLeaving }
+    ensures jump { LawOfJump }
+{}
+
+/// A slot takes a term.
+pub fn puts()
+    ensures variable { LawOfVariable }
+    ensures read_only { LawOfReadOnly }
+    ensures constant { LawOfConstant }
+    ensures pair { LawOfPair }
+{}
+
+/// A variable takes a term at its first occurrence.
+pub fn gets()
+    ensures first_ { LawOfFirst }
+{}
+
+/// A value is opened, or goes on to where the term is put.
+pub fn opens()
+    ensures pair { LawOfPairOpened }
+    ensures no_pair { LawOfNoPair }
+    ensures tuple { LawOfTupleOpened }
+    ensures no_tuple { LawOfNoTuple }
+{}
+
+/// Two slots are unified.
+pub fn unifies()
+    ensures done { LawOfUnify }
+    ensures clash { LawOfClash }
+    ensures pause { LawOfPause }
+{}
+
+/// A trial ends.
+pub fn endings()
+    ensures commit { LawOfCommit }
+    ensures fail { LawOfFail }
+    ensures wait { LawOfWait }
+{}
