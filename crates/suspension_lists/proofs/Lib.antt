@@ -1,0 +1,10 @@
+mod CellCases
+mod Gathering
+mod Hanging
+mod Keeping
+mod Knowing
+mod Lists
+mod Sorting
+mod Standing
+mod Waking
+mod Walking
