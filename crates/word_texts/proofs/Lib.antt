@@ -1,0 +1,6 @@
+pub mod LeavesOfTerms
+pub mod Given
+pub mod Steps
+pub mod Falling
+pub mod TurnsOfTerms
+pub mod WritesTerms
