@@ -14,7 +14,7 @@ use Rattle.heap_words.specs.declared.cell.Cell.{Cell}
 use Rattle.heap_words.specs.declared.cell.Cell.TheVariants.{Unbound, Ref, RoRef, Small, Wide, Str, Nil, Cons, Tuple, Status, Raw, Top}
 use Rattle.ro_unify.specs.Value.{leads_on}
 use Rattle.ro_unify.specs.Occurs.{whole_of, count_of}
-use Rattle.ro_unify.specs.Walks.{first_some, seen_at, IsSeen, seen_memory, Node, place, part, count, node_word, IsPlaceOf, IsPartOf, Goes}
+use Rattle.ro_unify.specs.Walks.{IsCountOf, first_some, seen_at, IsSeen, seen_memory, Node, place, part, count, node_word, IsPlaceOf, IsPartOf, Goes}
 use Rattle.ro_unify.specs.Walks.{Tame}
 use Rattle.ro_unify.specs.Walks as walks
 use Rattle.ro_unify.proofs.Seeing.{seen_had, seen_word}
@@ -192,22 +192,49 @@ module _ {S : Type 0} {addresses : S → ℕ} {sound : S → Type 0} {knows : S 
           go (Some z) j = by_place (tame.bound_inner a z j)
           go None j = (from_node a b e (part a) (part_word a e.0 j e.2)).1 i
 
-  met : (a : ℕ) → walked a ≡ true → Has (bound_seen binds kept (own w)) a
-  met a h = ⊎_elim (λ (i : tame.inner (place a) ≡ true). there (tame.inner_seen (place a) i))
-      (λ (i : tame.inner (part a) ≡ true). there (tame.inner_seen (part a) i)) (or_cases _ _ h)
+  -- what was seen is seen under the bindings too
+  seen_has : (a : ℕ) → IsSeen kept (own w) a → Has (bound_seen binds kept (own w)) a
+  seen_has a s = go (word_at binds a)
     where
-      there : IsSeen kept (own w) a → Has (bound_seen binds kept (own w)) a
-      there s = go (word_at binds a)
+      go : (o : Option ℕ) → (x : ℕ) × (first_some o (seen_at kept (own w) a) ≡ Some x)
+      go (Some z) = (z, refl)
+      go None = (s.word, s.there)
+
+  met : (a : ℕ) → walked a ≡ true → Has (bound_seen binds kept (own w)) a
+  met a h = ⊎_elim (λ (i : tame.inner (place a) ≡ true). seen_has a (tame.inner_seen (place a) i))
+      (λ (i : tame.inner (part a) ≡ true). seen_has a (tame.inner_seen (part a) i)) (or_cases _ _ h)
+
+  -- the number of a walked tuple's parts was seen
+  counts : (a x t : ℕ) → walked a ≡ true → bound_seen binds kept (own w) a ≡ Some x → decoded x ≡ Some (Tuple t)
+      → Has (bound_seen binds kept (own w)) t
+  counts a x t h e d = ⊎_elim by_place by_part (or_cases _ _ h)
+    where
+      goes : Goes (seen_memory kept (own w)) x (count t)
+      goes = subst (λ (o : Option Cell). IsCountOf (whole_of o) t) (sym d) refl
+
+      there : IsSeen kept (own w) t → Has (bound_seen binds kept (own w)) t
+      there s = seen_has t s
+
+      by_node : (v : Node) → node_word binds (seen_memory kept (own w)) v ≡ x → tame.inner v ≡ true
+          → Has (bound_seen binds kept (own w)) t
+      by_node v is i = there (tame.inner_seen (count t)
+          (tame.stays v (count t) (subst (λ (y : ℕ). Goes (seen_memory kept (own w)) y (count t)) (sym is) goes) i))
+
+      by_place : tame.inner (place a) ≡ true → Has (bound_seen binds kept (own w)) t
+      by_place i = by_node (place a) (place_word a x e) i
+
+      by_part : tame.inner (part a) ≡ true → Has (bound_seen binds kept (own w)) t
+      by_part i = go (word_at binds a) refl
         where
-          go : (o : Option ℕ) → (x : ℕ) × (first_some o (seen_at kept (own w) a) ≡ Some x)
-          go (Some z) = (z, refl)
-          go None = (s.word, s.there)
+          go : (o : Option ℕ) → word_at binds a ≡ o → Has (bound_seen binds kept (own w)) t
+          go (Some z) j = by_place (tame.bound_inner a z j)
+          go None j = by_node (part a) (part_word a x j e) i
 
   low : (a : ℕ) → rank a < suc tame.top
   low a = omega (arith, rank_place a, tame.low (place a))
 
   walk : IsWalked (bound_seen binds kept (own w)) walked rank (suc tame.top)
-  walk = record { met = met; falls = λ a b h e. (closed a b h e, falls a b e); low = λ a h. low a }
+  walk = record { met = met; falls = λ a b h e. (closed a b h e, falls a b e); counts = counts; low = λ a h. low a }
 
   pub settled_tame : (settled : WordList) (ps : List (List ℕ)) → IsSettled kept binds (own w) settled ps → IsTame kept settled ps
   settled_tame settled ps is = record {

@@ -5,7 +5,7 @@ use Rattle.heap_words.specs.Refers.{Reaches, teller, ReachesBy}
 use Rattle.heap_words.specs.Heaps.{only_final}
 use Rattle.heap_words.specs.Trails.{WordList, word_at}
 use Rattle.heap_words.specs.declared.cell.Cell.{Cell}
-use Rattle.heap_words.specs.declared.cell.Cell.TheVariants.{Raw}
+use Rattle.heap_words.specs.declared.cell.Cell.TheVariants.{Tuple, Raw}
 use Rattle.word_states.specs.Words.{Words, Has, over}
 use Rattle.word_states.specs.Pieces.{rows, RefersOwn, with_own}
 
@@ -27,6 +27,8 @@ pub record IsWalked (seen : Words) (walked : ℕ → Bool) (rank : ℕ → ℕ) 
   pub met : (a : ℕ) → walked a ≡ true → Has seen a
   -- a walk goes on to walked addresses alone, of lower rank
   pub falls : (a b : ℕ) → walked a ≡ true → Edge seen a b → (walked b ≡ true) × (rank b < rank a)
+  -- the number of parts of each walked tuple was seen
+  pub counts : (a x t : ℕ) → walked a ≡ true → seen a ≡ Some x → decoded x ≡ Some (Tuple t) → Has seen t
   -- no rank is above
   pub low : (a : ℕ) → walked a ≡ true → rank a < most
 
