@@ -125,8 +125,8 @@ instr_text names t (instr.PutTuple slot first parts op) = builder_text (instr.Pu
 instr_text names t (instr.Unify left right) = two (codes "Unify left=") left (codes " right=") right
 instr_text names t (instr.Jump to) = one (codes "Jump to=") to
 instr_text names t (instr.Test kind left left_len right right_len) =
-    codes "Test " ++ test_text kind ++ side_text (codes " left=") (take left_len (drop left t.steps))
-    ++ side_text (codes " right=") (take right_len (drop right t.steps))
+    codes "Test " ++ test_text kind ++ side_text (codes " left") (take left_len (drop left t.steps))
+    ++ side_text (codes " right") (take right_len (drop right t.steps))
 instr_text names t instr.Otherwise = codes "Otherwise"
 instr_text names t (instr.Spawn procedure first parts) =
     codes "Spawn " ++ called_text names t.procedures procedure ++ two (codes " first=") first (codes " parts=") parts

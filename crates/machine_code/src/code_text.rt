@@ -212,13 +212,13 @@ fn push_test(
     right: (u32, u16),
 ) -> Result<(), NoMemory>
     ensures { OnOk result (text.new.items ≡ text.old.items
-        ++ (codes "Test " ++ test_text kind ++ side_text (codes " left=") (take left.1 (drop left.0 code.now.steps))
-        ++ side_text (codes " right=") (take right.1 (drop right.0 code.now.steps)))) }
+        ++ (codes "Test " ++ test_text kind ++ side_text (codes " left") (take left.1 (drop left.0 code.now.steps))
+        ++ side_text (codes " right") (take right.1 (drop right.0 code.now.steps)))) }
 {
     push_bytes(text, b"Test ")?;
     push_bytes(text, test_name(kind).as_bytes())?;
-    push_side(text, b" left=", code.steps(left.0, left.1))?;
-    push_side(text, b" right=", code.steps(right.0, right.1))
+    push_side(text, b" left", code.steps(left.0, left.1))?;
+    push_side(text, b" right", code.steps(right.0, right.1))
 }
 
 /// Steps after a label; nothing where there are none.
