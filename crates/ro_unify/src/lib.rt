@@ -4,11 +4,7 @@
 mod alike;
 mod look;
 mod occurrence;
-#[cfg(test)]
-mod sheet;
 mod table;
-#[cfg(test)]
-mod tests;
 mod unification;
 
 pub use alike::push_alike;

@@ -2,7 +2,7 @@ use Rattle.std.proofs.Common.{ℕ, List, sym, subst}
 use Rattle.ro_unify.specs.Occurs.{Each}
 use Rattle.ro_unify.specs.Alike.{Both}
 use Rattle.ro_unify.proofs.Starting.{starts_holding, starts_tame}
-use Rattle.ro_unify.proofs.tests.unify_at.Goals as goal
+use Rattle.word_tests.proofs.unification.unify_at.Goals as goal
 
 pub unify-requires-clause-sound : goal.unify-requires-clause-sound
 unify-requires-clause-sound g c =

@@ -1,18 +1,53 @@
 //! Words for tests: a list, of which a load gives those that fit where they stand.
-ghost use Rattle.std.specs.Prelude.{◌≡◌, ◌<◌, ◌≤◌, None, Some, length};
+#![tactic(auto)]
+
+ghost use Rattle.std.specs.Prelude.{◌≡◌, ◌<◌, ◌≤◌, ◌++◌, [], ◌∷◌, None, Some, IfOk, OnOk, OnErr, length};
 ghost use Rattle.heap_words.specs.Cells.{decoded};
 ghost use Rattle.heap_words.specs.Heaps.{only_final};
-ghost use Rattle.ro_unify.specs.Sheets.{is_among_places, is_head, does_fit, fitting, word_in, LeadsIn};
-ghost use Rattle.ro_unify.specs.SheetLaws.{sheet_laws};
-ghost use Rattle.ro_unify.specs.declared.sheet.Sheet.{Sheet};
+ghost use Rattle.word_sheets.specs.Sheets.{is_among_places, is_head, does_fit, fitting, word_in, LeadsIn};
+ghost use Rattle.word_sheets.specs.SheetLaws.{sheet_laws};
+ghost use Rattle.word_sheets.specs.declared.Sheet.{Sheet};
 
+use fcp_model::NoMemory;
 use heap_words::{Cell, Words, decode};
+use std::alloc::Global;
+
+/// A sheet takes words up to this number.
+const MOST: usize = 4_000_000;
 
 /// Blocks of 128 words by turns for places and for the words of terms. A word that leads to a higher address, or as to a part to a
 /// block of places, is taken for the empty list; so is a count but for the first word of a block, and each status and top.
 #[derive(Drop)]
-pub(crate) struct Sheet {
-    pub(crate) words: Vec<u64>,
+pub struct Sheet {
+    pub words: Vec<u64>,
+}
+
+impl Sheet {
+    /// A sheet without words.
+    pub fn make(alloc: Global) -> Sheet
+        ensures { result.words.items ≡ [] }
+    {
+        Sheet {
+            words: Vec::new(alloc),
+        }
+    }
+
+    /// Puts a word at the end, and answers its address. A sheet that is full is as want of memory.
+    pub fn put(&mut self, word: u64) -> Result<u32, NoMemory>
+        ensures put { OnOk result (self.new.words.items ≡ self.old.words.items ++ word ∷ []) }
+        ensures at { IfOk result (λ a. a ≡ length self.old.words.items) }
+        ensures few { OnOk result (length self.new.words.items ≤ 4000000) }
+        ensures stays { OnErr result (self.new.words.items ≡ self.old.words.items) }
+    {
+        let at = self.words.len();
+        if at >= MOST {
+            return Err(NoMemory);
+        }
+        match self.words.push(word) {
+            Ok(()) => Ok(at as u32),
+            Err(_) => Err(NoMemory),
+        }
+    }
 }
 
 fn is_place(addr: u64) -> bool

@@ -1,0 +1,5 @@
+pub mod Numbers
+pub mod Evaluation
+pub mod Equality
+pub mod Forms
+pub mod Guards
