@@ -1,6 +1,5 @@
 //! One item after another.
 ghost use Rattle.std.specs.Prelude.{◌≡◌, ℕ, ◌+◌, ◌<◌, ◌≤◌, ◌++◌, List, IfOk, OnOk, OnErr};
-ghost use Rattle.heap_words.specs.Cells.{decoded};
 ghost use Rattle.heap_words.specs.Trails.{Holds, KeepsLoads, Says};
 ghost use Rattle.ro_unify.specs.Walks.{Tame};
 ghost use Rattle.ro_unify.specs.Occurs.{stack, Each};
