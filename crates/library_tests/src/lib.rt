@@ -14,8 +14,12 @@ mod model;
 #[cfg(test)]
 mod reader;
 #[cfg(test)]
+mod sheet;
+#[cfg(test)]
 mod streams;
 #[cfg(test)]
 mod terminals;
 #[cfg(test)]
 mod text;
+#[cfg(test)]
+mod value_texts;

@@ -3,4 +3,5 @@ pub mod Given
 pub mod Steps
 pub mod Falling
 pub mod TurnsOfTerms
+pub mod Fronts
 pub mod WritesTerms

@@ -1,7 +1,7 @@
 -- What the steps of a text need: known addresses, what comes next, and a measure.
 use Rattle.std.proofs.Common.{◌≡◌, ℕ, zero, suc, ◌+◌, ◌-◌, ◌<◌, ◌≤◌, List, [], ◌∷◌, ◌++◌, codes}
 use Rattle.std.proofs.Common.{Option, Some, None, refl, sym, ap, ◌∙◌, subst, arith, inl, inr}
-use Rattle.std.specs.Prelude.{◌⊎◌}
+use Rattle.std.specs.Prelude.{◌⊎◌, Result, Ok, Err, OnErr}
 use Rattle.heap_words.specs.Cells.{encoded, decoded}
 use Rattle.heap_words.specs.WordsLaws.{WordsLaws}
 use Rattle.heap_words.specs.Trails.{WordList, Memory}
@@ -24,7 +24,12 @@ use Rattle.fcp_model.specs.declared.names.Sym.{Sym}
 use Rattle.fcp_model.specs.Spelling.{Bytes, string_text, name_at}
 use Rattle.word_texts.specs.declared.items.Bracket.TheVariants.{Round, Curly}
 use Rattle.word_texts.specs.Turns.{Leads, whole_look, tail_look, tail_in, count_at, part_items, Functor, round, curly, Opened, Turned}
-use Rattle.word_texts.specs.Turns.{Writes, at_end, on}
+use Rattle.word_texts.specs.Turns.{Writes, still, on}
+
+-- what holds anyway holds after want of memory
+pub on_err : {T E : Type 0} (P : Type 0) (r : Result T E) → P → OnErr r P
+on_err P (Ok x) h = tt
+on_err P (Err e) h = h
 
 -- the cell of a long number, and of a pair that goes on with a list
 pub long_cell : (o : Option Cell) (a h : ℕ) → leaf_of o ≡ leaf.Long a h → o ≡ Some (cell.Wide a h)
@@ -145,14 +150,14 @@ curly_opened {bs = bs} {m = m} k a n o is is' old new c f e x i = record {
 
 -- the end of the items, and the next one
 pub writes_none : {bs : WordList} {m : Memory} {names : List Bytes} (k : ℕ) (is : List Item) (text : Bytes) → is ≡ []
-    → Writes bs m names k (stack is) text text
+    → Writes bs m names k (stack is) text k [] text
 writes_none {bs = bs} {m = m} {names = names} k is text e =
-    subst (λ (js : List Item). Writes bs m names k (stack js) text text) (sym e) (at_end k text)
+    subst (λ (js : List Item). Writes bs m names k (stack js) text k [] text) (sym e) (still k [] text)
 
 pub writes_on : {bs : WordList} {m : Memory} {names : List Bytes} (k : ℕ) (i : Item) (is : List Item) (old : Bytes) (j : ℕ)
-    (is' : List Item) (mid new : Bytes) → Turned bs m names k i is old j is' mid → Writes bs m names j is' mid new
-    → Writes bs m names k (i ∷ is) old new
-writes_on {bs = bs} {m = m} {names = names} k i is old j is' mid new t w =
-    on k i is old t.text j t.first new t.turns
-    (subst (λ (x : Bytes). Writes bs m names j (t.first ++ is) x new) t.appended
-    (subst (λ (js : List Item). Writes bs m names j js mid new) t.items w))
+    (is' : List Item) (mid : Bytes) (l : ℕ) (ls : List Item) (new : Bytes) → Turned bs m names k i is old j is' mid
+    → Writes bs m names j is' mid l ls new → Writes bs m names k (i ∷ is) old l ls new
+writes_on {bs = bs} {m = m} {names = names} k i is old j is' mid l ls new t w =
+    on k i is old t.text j t.first l ls new t.turns
+    (subst (λ (x : Bytes). Writes bs m names j (t.first ++ is) x l ls new) t.appended
+    (subst (λ (js : List Item). Writes bs m names j js mid l ls new) t.items w))

@@ -86,11 +86,11 @@ module _ (names : List Bytes) (s : Bindings) where
       → rest_text (suc n) names s (suc k) t ≡ rest_on n names s k t v
   rest_valued k n t v e = ap (λ (o : Option terms.Look). elim o [ None ↦ None | Some l ↦ rest_on n names s k t l ]) e
 
-  leaf_shown : (n k : ℕ) (v : terms.Look) (bs : Bytes) → look_text n names s k v (Some bs) ≡ written bs k
+  pub leaf_shown : (n k : ℕ) (v : terms.Look) (bs : Bytes) → look_text n names s k v (Some bs) ≡ written bs k
   leaf_shown zero k v bs = refl
   leaf_shown (suc n) k v bs = refl
 
-  other_shown : (n k : ℕ) (t : Term Variable) (v : terms.Look) → Other v
+  pub other_shown : (n k : ℕ) (t : Term Variable) (v : terms.Look) → Other v
       → rest_on (suc n) names s k t v ≡ behind (codes "|") (before (codes "]") (term_text n names s (suc k) t))
   other_shown n k t (writable v) o = refl
   other_shown n k t (read_only v) o = refl

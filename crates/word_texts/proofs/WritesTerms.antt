@@ -13,9 +13,10 @@ use Rattle.fcp_model.specs.Terms.{Term, cons, tuple, Terms, none, more, Bindings
 use Rattle.fcp_model.specs.Value.{solid, value}
 use Rattle.fcp_model.specs.Value as terms
 use Rattle.fcp_model.specs.Spelling.{Bytes, string_text, name_at}
-use Rattle.fcp_model.specs.TermText.{Written, string_of}
+use Rattle.fcp_model.specs.TermText.{Written, written, string_of, term_text, cut_text}
 use Rattle.word_texts.specs.Turns.{closing, whole_look, tail_look, string_look, part_items, pair_items, count_at, Functor, few, first}
-use Rattle.word_texts.specs.Turns.{Opens, round, curly, Turns, cut, leaf, pair, rest_cut, ends, goes, other, closes, Writes, at_end, on}
+use Rattle.word_texts.specs.Turns.{Opens, round, curly, Turns, cut, leaf, pair, rest_cut, ends, goes, other, closes, Writes, still, on}
+use Rattle.word_texts.specs.Turns.{WritesAll, WritesSome}
 use Rattle.word_texts.specs.Leaves as words
 use Rattle.word_texts.specs.Turns as turns
 use Rattle.word_texts.specs.Shown.{Labels, Adds}
@@ -28,12 +29,16 @@ use Rattle.word_texts.proofs.Given.{Gives, Part, term, rest, others, part_text, 
 use Rattle.word_texts.proofs.Given as given
 use Rattle.word_texts.proofs.LeavesOfTerms.{Found, found, leaf_is, pair_is, further_is, end_is, other_is, string_is, tuple_is}
 use Rattle.word_texts.proofs.TurnsOfTerms.{GivesOn, HasValue, parts_of, cut_gives, leaf_gives, pair_gives, curly_gives, round_gives}
+use Rattle.word_texts.proofs.Fronts.{AtAll, GoesOn, Back, first_at, all_at, one_at, cut_back, leaf_back, pair_back, curly_back, round_back}
+use Rattle.word_texts.proofs.Fronts.{rest_cut_back, goes_back, end_back, other_back, none_back, more_back, close_back}
 use Rattle.word_texts.proofs.TurnsOfTerms.{rest_cut_gives, goes_gives, end_gives, other_gives, none_gives, more_gives, close_gives}
 
--- a text after two others
-after_two : (old x a b z new : Bytes) → new ≡ (old ++ x) ++ z → z ≡ a ++ b → new ≡ old ++ ((x ++ a) ++ b)
-after_two old x a b z new e f =
-    e ∙ (ap (λ (y : Bytes). (old ++ x) ++ y) f ∙ (append_assoc old x (a ++ b) ∙ ap (λ (y : Bytes). old ++ y) (sym (append_assoc x a b))))
+-- texts after one another, cut at two places
+joined : (x a b z y : Bytes) → z ++ y ≡ a ++ b → (x ++ a) ++ b ≡ (x ++ z) ++ y
+joined x a b z y e = append_assoc x a b ∙ (ap (λ (w : Bytes). x ++ w) (sym e) ∙ sym (append_assoc x z y))
+
+joined_back : (x a b z y w : Bytes) → w ≡ x ++ a → a ++ b ≡ z ++ y → w ++ b ≡ (x ++ z) ++ y
+joined_back x a b z y w f e = ap (λ (v : Bytes). v ++ b) f ∙ joined x a b z y (sym e)
 
 module _ (p : Naming) (m : Memory) where
   -- an item stands for a part of what is to be written
@@ -71,6 +76,7 @@ module _ (p : Naming) (bs : WordList) (m : Memory) (s : Bindings) (names : List 
     pub parts : List Part
     pub are : AreParts p m parts is
     pub gives : GivesOn names s k q x j parts
+    pub back : Back names s k q x j parts
 
   -- the value of a word
   valued : (w : ℕ) (l : Look) (t : Term Variable) → Values bs m false w l → Denotes p m t w → Found p bs m s names labels stands t l
@@ -90,15 +96,16 @@ module _ (p : Naming) (bs : WordList) (m : Memory) (s : Bindings) (names : List 
   as_part : (k : ℕ) (q r : Part) (x : Bytes) (j : ℕ) (is : List Item) → q ≡ r → Comes k r x j is → Comes k q x j is
   as_part k q r x j is e c = subst (λ (o : Part). Comes k o x j is) (sym e) c
 
-  no_parts : (k : ℕ) (q : Part) (x : Bytes) (j : ℕ) → GivesOn names s k q x j [] → Comes k q x j []
-  no_parts k q x j g = record { parts = []; are = tt; gives = g }
+  no_parts : (k : ℕ) (q : Part) (x : Bytes) (j : ℕ) → GivesOn names s k q x j [] → Back names s k q x j [] → Comes k q x j []
+  no_parts k q x j g h = record { parts = []; are = tt; gives = g; back = h }
 
   leaf_comes : (k w : ℕ) (l : Look) (t : Term Variable) → Values bs m false w l → Denotes p m t w → whole_look l ≡ whole.Atom
       → Comes (suc k) (term t) (words.look_text m names l) k []
   leaf_comes k w l t v d e =
       let f = valued w l t v d in
-      no_parts (suc k) (term t) _ k
-      (leaf_gives names s k t f.look f.steps _ f.value_is (leaf_is p bs m s names labels stands l f.look f.is f.plain e))
+      let i = leaf_is p bs m s names labels stands l f.look f.is f.plain e in
+      no_parts (suc k) (term t) _ k (leaf_gives names s k t f.look f.steps _ f.value_is i)
+      (leaf_back names s k t f.look f.steps _ f.value_is i)
 
   pair_comes : (k w a : ℕ) (l : Look) (t : Term Variable) → Values bs m false w l → Denotes p m t w → whole_look l ≡ whole.Pair a
       → Comes (suc k) (term t) (codes "[") k (pair_items m a)
@@ -109,6 +116,7 @@ module _ (p : Naming) (bs : WordList) (m : Memory) (s : Bindings) (names : List 
         parts = term r.head ∷ rest r.tail ∷ [];
         are = ((r.head, refl, r.head_is), ((r.tail, refl, r.tail_is), tt));
         gives = pair_gives names s k t r.head r.tail f.steps (has t l f (solid (cons r.head r.tail)) r.is);
+        back = pair_back names s k t r.head r.tail f.steps (has t l f (solid (cons r.head r.tail)) r.is);
       }
 
   goes_comes : (k w a : ℕ) (l : Look) (t : Term Variable) → Values bs m false w l → Denotes p m t w → tail_look l ≡ tail.Pair a
@@ -120,14 +128,15 @@ module _ (p : Naming) (bs : WordList) (m : Memory) (s : Bindings) (names : List 
         parts = term r.head ∷ rest r.tail ∷ [];
         are = ((r.head, refl, r.head_is), ((r.tail, refl, r.tail_is), tt));
         gives = goes_gives names s k t r.head r.tail f.steps (has t l f (solid (cons r.head r.tail)) r.is);
+        back = goes_back names s k t r.head r.tail f.steps (has t l f (solid (cons r.head r.tail)) r.is);
       }
 
   end_comes : (k w : ℕ) (l : Look) (t : Term Variable) → Values bs m false w l → Denotes p m t w → tail_look l ≡ tail.End
       → Comes (suc k) (rest t) (codes "]") k []
   end_comes k w l t v d e =
       let f = valued w l t v d in
-      no_parts (suc k) (rest t) (codes "]") k
-      (end_gives names s k t f.steps (has t l f _ (end_is p bs m s names labels stands l f.look f.is f.plain e)))
+      let v = has t l f _ (end_is p bs m s names labels stands l f.look f.is f.plain e) in
+      no_parts (suc k) (rest t) (codes "]") k (end_gives names s k t f.steps v) (end_back names s k t f.steps v)
 
   other_comes : (k w : ℕ) (l : Look) (t : Term Variable) → Values bs m false w l → Denotes p m t w → tail_look l ≡ tail.Other
       → Comes (suc k) (rest t) (codes "|") (suc k) (item.Term w ∷ item.Close Square ∷ [])
@@ -137,6 +146,7 @@ module _ (p : Naming) (bs : WordList) (m : Memory) (s : Bindings) (names : List 
         parts = term t ∷ given.closes Square ∷ [];
         are = ((t, refl, d), (refl, tt));
         gives = other_gives names s k t f.look f.steps f.value_is (other_is p bs m s names labels stands l f.look f.is f.plain e);
+        back = other_back names s k t f.look f.steps f.value_is (other_is p bs m s names labels stands l f.look f.is f.plain e);
       }
 
   -- the string before a parenthesis
@@ -169,6 +179,8 @@ module _ (p : Naming) (bs : WordList) (m : Memory) (s : Bindings) (names : List 
         are = closed_parts p m r.parts a (count_at m a) Curly r.count r.parts_are;
         gives = curly_gives names s k t r.parts g.steps (has t l g (solid (tuple r.parts)) r.is)
             (no_string k a (count_at m a) r.parts f r.count r.parts_are);
+        back = curly_back names s k t r.parts g.steps (has t l g (solid (tuple r.parts)) r.is)
+            (no_string k a (count_at m a) r.parts f r.count r.parts_are);
       }
 
   -- what comes after a tuple's first part
@@ -191,6 +203,7 @@ module _ (p : Naming) (bs : WordList) (m : Memory) (s : Bindings) (names : List 
         parts = parts_of (more u us) ++ given.closes Round ∷ [];
         are = closed_parts p m (more u us) (a + 1) (n - 1) Round less d.1;
         gives = round_gives names s (k - 1) t h u us b f.0 c.0 v f.1;
+        back = round_back names s (k - 1) t h u us b f.0 c.0 v f.1;
       })
 
   opens_come : (k a : ℕ) (x : Bytes) (j : ℕ) (is : List Item) → Opens bs m names k a x j is → (w : ℕ) (l : Look) (t : Term Variable)
@@ -203,7 +216,7 @@ module _ (p : Naming) (bs : WordList) (m : Memory) (s : Bindings) (names : List 
 
   -- parts that follow
   none_comes : (k a n : ℕ) (ts : Terms Variable) → n ≡ 0 → n ≡ size_of ts → Comes k (others ts) [] k []
-  none_comes k a n none e z = no_parts k (others none) [] k (none_gives names s k)
+  none_comes k a n none e z = no_parts k (others none) [] k (none_gives names s k) (none_back names s k)
   none_comes k a n (more t ts) e z = absurd (omega arith)
 
   more_comes : (k a n : ℕ) (ts : Terms Variable) → 0 < n → n ≡ size_of ts → DenotesAll p m ts a
@@ -213,13 +226,15 @@ module _ (p : Naming) (bs : WordList) (m : Memory) (s : Bindings) (names : List 
     parts = parts_of (more t ts);
     are = subst (λ (y : ℕ). AreParts p m (parts_of (more t ts)) (part_items m a y)) (sym z) (are_parts p m (more t ts) a d);
     gives = more_gives names s k t ts;
+    back = more_back names s k t ts;
   }
 
   -- an item comes to what its part comes to
   turn_comes : (k : ℕ) (i : Item) (x : Bytes) (j : ℕ) (is : List Item) → Turns bs m names k i x j is → (q : Part) → IsPart p m q i
       → Comes k q x j is
   turn_comes _ _ _ _ _ (cut k w e) q h =
-      as_part k q (term h.0) (codes "..") 0 [] h.1 (no_parts k (term h.0) (codes "..") 0 (cut_gives names s k h.0 e))
+      as_part k q (term h.0) (codes "..") 0 [] h.1
+      (no_parts k (term h.0) (codes "..") 0 (cut_gives names s k h.0 e) (cut_back names s k h.0 e))
   turn_comes _ _ _ _ _ (leaf k w l lt v e) q h =
       as_part k q (term h.0) _ (k - 1) [] h.1 (with_node k (term h.0) _ [] lt (leaf_comes (k - 1) w l h.0 v h.2 e))
   turn_comes _ _ _ _ _ (pair k w a l lt v e) q h =
@@ -229,7 +244,8 @@ module _ (p : Naming) (bs : WordList) (m : Memory) (s : Bindings) (names : List 
       as_part k q (term h.0) x j is h.1
       (subst (λ (b : ℕ). Comes b (term h.0) x j is) (one_less k lt) (opens_come (k - 1) a x j is o w l h.0 v h.2 e))
   turn_comes _ _ _ _ _ (rest_cut k w e) q h =
-      as_part k q (rest h.0) (codes "|..]") 0 [] h.1 (no_parts k (rest h.0) (codes "|..]") 0 (rest_cut_gives names s k h.0 e))
+      as_part k q (rest h.0) (codes "|..]") 0 [] h.1
+      (no_parts k (rest h.0) (codes "|..]") 0 (rest_cut_gives names s k h.0 e) (rest_cut_back names s k h.0 e))
   turn_comes _ _ _ _ _ (ends k w l lt v e) q h =
       as_part k q (rest h.0) (codes "]") (k - 1) [] h.1 (with_node k (rest h.0) (codes "]") [] lt (end_comes (k - 1) w l h.0 v h.2 e))
   turn_comes _ _ _ _ _ (goes k w a l lt v e) q h =
@@ -243,40 +259,87 @@ module _ (p : Naming) (bs : WordList) (m : Memory) (s : Bindings) (names : List 
   turn_comes _ _ _ _ _ (turns.more k a n lt) q h =
       as_part k q (others h.0) (codes ",") k (part_items m a n) h.1 (more_comes k a n h.0 lt h.2 h.3)
   turn_comes _ _ _ _ _ (closes k b) q h =
-      as_part k q (given.closes b) (closing b) k [] h (no_parts k (given.closes b) (closing b) k (close_gives names s k b))
+      as_part k q (given.closes b) (closing b) k [] h
+      (no_parts k (given.closes b) (closing b) k (close_gives names s k b) (close_back names s k b))
 
-  -- what is written of all parts
-  record Written_as (k : ℕ) (qs : List Part) (old new : Bytes) : Type 0 where
+  -- what some of the items come to: a text, and further parts
+  record Comes_all (k : ℕ) (qs : List Part) (l : ℕ) (ls : List Item) (old new : Bytes) : Type 0 where
     text : Bytes
-    left : ℕ
-    given : GivesAll names s k qs text left
+    parts : List Part
+    are : AreParts p m parts ls
+    gives : (y : Bytes) (i : ℕ) → GivesAll names s l parts y i → GivesAll names s k qs (text ++ y) i
+    back : (z : Bytes) (i : ℕ) → AtAll names s k qs z i → GoesOn names s text l parts z i
     appended : new ≡ old ++ text
 
-  writes_come : (k : ℕ) (is : List Item) (old new : Bytes) → Writes bs m names k is old new → (qs : List Part) → AreParts p m qs is
-      → Written_as k qs old new
-  writes_come _ _ _ _ (at_end k text) [] h = record { text = []; left = k; given = nothing k; appended = sym (append-nil text) }
-  writes_come _ _ _ _ (at_end k text) (q ∷ qs) h = absurd h
-  writes_come _ _ _ _ (on k i is old x j js new t w) [] h = absurd h
-  writes_come _ _ _ _ (on k i is old x j js new t w) (q ∷ qs) h =
+  gives_more : (k : ℕ) (q : Part) (qs : List Part) (x : Bytes) (j : ℕ) (ps : List Part) (z y : Bytes) (i : ℕ)
+      → GivesOn names s k q x j ps → GivesAll names s j (ps ++ qs) (z ++ y) i → GivesAll names s k (q ∷ qs) ((x ++ z) ++ y) i
+  gives_more k q qs x j ps z y i f g =
+      let b = splits names s j ps qs (z ++ y) i g in
+      subst (λ (w : Bytes). GivesAll names s k (q ∷ qs) w i) (joined x b.text b.after z y b.is)
+      (then k q qs (x ++ b.text) b.left b.after i (f b.text b.left b.first) b.others)
+
+  back_more : (k : ℕ) (q : Part) (qs : List Part) (x : Bytes) (j : ℕ) (ps : List Part) (z : Bytes) (l : ℕ) (rs : List Part)
+      (w : Bytes) (i : ℕ)
+      → Back names s k q x j ps → ((y : Bytes) (c : ℕ) → AtAll names s j (ps ++ qs) y c → GoesOn names s z l rs y c)
+      → AtAll names s k (q ∷ qs) w i → GoesOn names s (x ++ z) l rs w i
+  back_more k q qs x j ps z l rs w i f g h =
+      let b = first_at names s k q qs w i h in
+      let c = f b.steps b.text b.left b.first in
+      let d = g (c.text ++ b.after) i (all_at names s j ps qs c.text b.left b.after i c.others b.others) in
+      record { text = d.text; whole = b.is ∙ joined_back x c.text b.after z d.text b.text c.whole d.whole; others = d.others }
+
+  writes_come : (k : ℕ) (is : List Item) (old : Bytes) (l : ℕ) (ls : List Item) (new : Bytes) → Writes bs m names k is old l ls new
+      → (qs : List Part) → AreParts p m qs is → Comes_all k qs l ls old new
+  writes_come _ _ _ _ _ _ (still k is text) qs h = record {
+    text = [];
+    parts = qs;
+    are = h;
+    gives = λ y i g. g;
+    back = λ z i g. record { text = z; whole = refl; others = g };
+    appended = sym (append-nil text);
+  }
+  writes_come _ _ _ _ _ _ (on k i is old x j js l ls new t w) [] h = absurd h
+  writes_come _ _ _ _ _ _ (on k i is old x j js l ls new t w) (q ∷ qs) h =
       let c = turn_comes k i x j js t q h.0 in
-      let r = writes_come j (js ++ is) (old ++ x) new w (c.parts ++ qs) (are_both p m c.parts qs js is c.are h.1) in
-      let b = splits names s j c.parts qs r.text r.left r.given in
+      let r = writes_come j (js ++ is) (old ++ x) l ls new w (c.parts ++ qs) (are_both p m c.parts qs js is c.are h.1) in
       record {
-        text = (x ++ b.text) ++ b.after;
-        left = r.left;
-        given = then k q qs (x ++ b.text) b.left b.after r.left (c.gives b.text b.left b.first) b.others;
-        appended = after_two old x b.text b.after r.text new r.appended b.is;
+        text = x ++ r.text;
+        parts = r.parts;
+        are = r.are;
+        gives = λ y b g. gives_more k q qs x j c.parts r.text y b c.gives (r.gives y b g);
+        back = λ z b g. back_more k q qs x j c.parts r.text l r.parts z b c.back r.back g;
+        appended = r.appended ∙ append_assoc old x r.text;
       }
 
-  -- and so of one term
-  pub shows : (k w : ℕ) (old new : Bytes) (t : Term Variable) → Writes bs m names k (item.Term w ∷ []) old new → Denotes p m t w
+  -- all of one term
+  pub shows : (k w : ℕ) (old new : Bytes) (t : Term Variable) → WritesAll bs m names k (item.Term w ∷ []) old new → Denotes p m t w
       → Adds names s k t old new
   shows k w old new t h d =
-      let r = writes_come k (item.Term w ∷ []) old new h (term t ∷ []) ((t, refl, d), tt) in
-      let g = last_is names s k (term t) r.text r.left r.given in
+      let r = writes_come k (item.Term w ∷ []) old h.0 [] new h.1 (term t ∷ []) ((t, refl, d), tt) in
+      let g = last_is names s k (term t) (r.text ++ []) h.0 (r.gives [] h.0 (ended h.0 r.parts r.are)) in
       record {
         text = r.text;
         appended = r.appended;
         steps = g.steps;
-        cut = λ n l. ap (option_map (λ (y : Written). y.text)) (g.is n l);
+        cut = λ n l. ap (option_map (λ (y : Written). y.text)) (g.is n l) ∙ ap Some (append-nil r.text);
       }
+    where
+      ended : (l : ℕ) (qs : List Part) → AreParts p m qs [] → GivesAll names s l qs [] l
+      ended l [] a = nothing l
+      ended l (q ∷ qs) a = absurd a
+
+  -- and a front of it
+  pub fronts : (k w : ℕ) (old new : Bytes) (t : Term Variable) → WritesSome bs m names k (item.Term w ∷ []) old new → Denotes p m t w
+      → (n : ℕ) (text : Bytes) → cut_text n names s k t ≡ Some text → (x y : Bytes) × (new ≡ old ++ x) × (text ≡ x ++ y)
+  fronts k w old new t h d n text e =
+      let r = writes_come k (item.Term w ∷ []) old h.0 h.1 new h.2 (term t ∷ []) ((t, refl, d), tt) in
+      let a = term_at n (term_text n names s k t) refl e in
+      let b = r.back text a.0 a.1 in
+      (r.text, b.text, r.appended, b.whole)
+    where
+      term_at : (n : ℕ) (o : Option Written) → term_text n names s k t ≡ o → option_map (λ (y : Written). y.text) o ≡ Some text
+          → (i : ℕ) × AtAll names s k (term t ∷ []) text i
+      term_at n None i q = cc
+      term_at n (Some v) i q =
+          let same : v.text ≡ text = cc in
+          (v.left, one_at names s k (term t) n text v.left (i ∙ ap (λ (y : Bytes). written y v.left) same))

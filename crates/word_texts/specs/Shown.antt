@@ -1,7 +1,7 @@
 -- The text of a value of words as that of the term for which they stand.
-use Rattle.std.specs.Prelude.{◌≡◌, ℕ, ◌+◌, ◌-◌, ◌*◌, ◌<◌, ◌≤◌, true, pos, List, ◌++◌, Some}
+use Rattle.std.specs.Prelude.{◌≡◌, ℕ, ◌+◌, ◌-◌, ◌*◌, ◌<◌, ◌≤◌, true, pos, List, ◌++◌, Option, Some}
 use Rattle.heap_words.specs.Cells.{decoded}
-use Rattle.heap_words.specs.Trails.{WordList, Memory}
+use Rattle.heap_words.specs.Trails.{WordList, Memory, KeepsLoads, Says}
 use Rattle.heap_words.specs.declared.cell.Cell.TheVariants.{Small}
 use Rattle.unify_terms.specs.Denotes.{Naming, Denotes, Stands}
 use Rattle.fcp_model.specs.declared.run.Place.{Place}
@@ -29,3 +29,18 @@ pub record Adds (names : List Bytes) (s : Bindings) (nodes : ℕ) (t : Term Vari
 abbrev pub IsShown : Memory → WordList → List Bytes → ℕ → ℕ → Bytes → Bytes → Type 0
 IsShown m bs names nodes w old new =
     (p : Naming) → Labels p m → (s : Bindings) (t : Term Variable) → Stands p m bs s → Denotes p m t w → Adds names s nodes t old new
+
+-- Likewise, wherever the definitions have a text for that value, a front of it was added.
+abbrev pub IsFront : Memory → WordList → List Bytes → ℕ → ℕ → Bytes → Bytes → Type 0
+IsFront m bs names nodes w old new =
+    (p : Naming) → Labels p m → (s : Bindings) (t : Term Variable) → Stands p m bs s → Denotes p m t w
+    → (n : ℕ) (text : Bytes) → cut_text n names s nodes t ≡ Some text → (x y : Bytes) × (new ≡ old ++ x) × (text ≡ x ++ y)
+
+-- The call stopped after some loads, and so it is said of every memory that has what they gave.
+pub record Stops {S : Type 0} (is_sound : S → Type 0) (had : S → ℕ → ℕ → Type 0) (leads : S → ℕ → Type 0) (later : S → S → Type 0)
+    (gave : S → S → ℕ → ℕ → Type 0) (own : S → ℕ → Option ℕ) (before binds : WordList) (v w : S) (P : Memory → Type 0) : Type 0 where
+  pub kept : WordList
+  pub at : S
+  pub loaded : KeepsLoads is_sound had leads later gave before binds v kept binds at
+  pub between : later at w
+  pub says : Says (own at) kept P

@@ -33,22 +33,24 @@ whole_look (Solid x) = whole_of (decoded x)
 whole_look (Writable a) = whole.Atom
 whole_look (ReadOnly a) = whole.Atom
 
--- the rest of a list: its end, a further pair, or anything else
+-- the rest of a list by its word: its end, a further pair, or anything else
 abbrev pub tail_in : Option Cell → Tail
 tail_in (Some cell.Nil) = tail.End
 tail_in (Some (cell.Cons a)) = tail.Pair a
 tail_in _ = tail.Other
 
+-- and by its value
 abbrev pub tail_look : Look → Tail
 tail_look (Solid x) = tail_in (decoded x)
 tail_look (Writable a) = tail.Other
 tail_look (ReadOnly a) = tail.Other
 
--- the string that a value is
+-- the string that a word is
 abbrev pub string_in : Option Cell → Option Sym
 string_in (Some (cell.Str s)) = Some s
 string_in _ = None
 
+-- and that a value is
 abbrev pub string_look : Look → Option Sym
 string_look (Solid x) = string_in (decoded x)
 string_look (Writable a) = None
@@ -82,7 +84,7 @@ module _ (bs : WordList) (m : Memory) (names : List Bytes) where
 
   -- What an item comes to, with so many nodes left.
   pub data Turns : ℕ → Item → Bytes → ℕ → List Item → Type 0 where
-    -- where no node is left, `..` stands for a term
+    -- where no node is left, `..` stands for a term; else it takes a node, and what comes next is its parts
     cut : (k w : ℕ) → k ≡ 0 → Turns k (Term w) (codes "..") 0 []
     leaf : (k w : ℕ) (l : Look) → 0 < k → Values bs m false w l → whole_look l ≡ whole.Atom
         → Turns k (Term w) (look_text m names l) (k - 1) []
@@ -90,7 +92,7 @@ module _ (bs : WordList) (m : Memory) (names : List Bytes) where
         → Turns k (Term w) (codes "[") (k - 1) (pair_items m a)
     tuple : (k w a : ℕ) (l : Look) (x : Bytes) (j : ℕ) (is : List Item) → 0 < k → Values bs m false w l → whole_look l ≡ whole.Tuple a
         → Opens (k - 1) a x j is → Turns k (Term w) x j is
-    -- and `|..` for the rest of a list, up to its bracket
+    -- the rest of a list, up to its bracket: `|..` stands for it where no node is left
     rest_cut : (k w : ℕ) → k ≡ 0 → Turns k (Rest w) (codes "|..]") 0 []
     ends : (k w : ℕ) (l : Look) → 0 < k → Values bs m false w l → tail_look l ≡ tail.End → Turns k (Rest w) (codes "]") (k - 1) []
     goes : (k w a : ℕ) (l : Look) → 0 < k → Values bs m false w l → tail_look l ≡ tail.Pair a
@@ -98,15 +100,17 @@ module _ (bs : WordList) (m : Memory) (names : List Bytes) where
     -- any other rest is a term that takes its own node
     other : (k w : ℕ) (l : Look) → 0 < k → Values bs m false w l → tail_look l ≡ tail.Other
         → Turns k (Rest w) (codes "|") k (Term w ∷ Close Square ∷ [])
+    -- further parts, each after a comma, and a closing bracket, take no node
     none : (k a n : ℕ) → n ≡ 0 → Turns k (Parts a n) [] k []
     more : (k a n : ℕ) → 0 < n → Turns k (Parts a n) (codes ",") k (part_items m a n)
     closes : (k : ℕ) (b : Bracket) → Turns k (Close b) (closing b) k []
 
-  -- The items from the first one on bring a text to another: what an item comes to is written before the others.
-  pub data Writes : ℕ → List Item → Bytes → Bytes → Type 0 where
-    at_end : (k : ℕ) (text : Bytes) → Writes k [] text text
-    on : (k : ℕ) (i : Item) (is : List Item) (old x : Bytes) (j : ℕ) (js : List Item) (new : Bytes) → Turns k i x j js
-        → Writes j (js ++ is) (old ++ x) new → Writes k (i ∷ is) old new
+  -- From the first item on: what an item comes to is written before the others. So many nodes, these items and this text become
+  -- others; where no item is left, all was written.
+  pub data Writes : ℕ → List Item → Bytes → ℕ → List Item → Bytes → Type 0 where
+    still : (k : ℕ) (is : List Item) (text : Bytes) → Writes k is text k is text
+    on : (k : ℕ) (i : Item) (is : List Item) (old x : Bytes) (j : ℕ) (js : List Item) (l : ℕ) (ls : List Item) (new : Bytes)
+        → Turns k i x j js → Writes j (js ++ is) (old ++ x) l ls new → Writes k (i ∷ is) old l ls new
 
   -- what a call did for an item in front of others
   pub record Turned (k : ℕ) (i : Item) (is : List Item) (old : Bytes) (j : ℕ) (is' : List Item) (new : Bytes) : Type 0 where
@@ -130,6 +134,14 @@ Leads knows leads (Term w) = leads w
 Leads knows leads (Rest w) = leads w
 Leads knows leads (Parts a n) = (b : ℕ) → a < b → b ≤ a + n → knows b
 Leads knows leads (Close b) = Unit {0}
+
+-- all items were written
+abbrev pub WritesAll : WordList → Memory → List Bytes → ℕ → List Item → Bytes → Bytes → Type 0
+WritesAll bs m names k is old new = (l : ℕ) × Writes bs m names k is old l [] new
+
+-- or some of them
+abbrev pub WritesSome : WordList → Memory → List Bytes → ℕ → List Item → Bytes → Bytes → Type 0
+WritesSome bs m names k is old new = (l : ℕ) × (ls : List Item) × Writes bs m names k is old l ls new
 
 -- the second text is the first one with more after it
 abbrev pub Appends : Bytes → Bytes → Type 0

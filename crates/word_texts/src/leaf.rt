@@ -1,5 +1,5 @@
 //! The texts of values without parts.
-ghost use Rattle.std.specs.Prelude.{◌≡◌, ℕ, ◌+◌, ◌-◌, ◌*◌, ◌<◌, pos, negsuc, ◌≤ℤ◌, ◌++◌, [], OnOk, OnErr};
+ghost use Rattle.std.specs.Prelude.{◌≡◌, ◌-◌, ◌<◌, pos, negsuc, ◌≤ℤ◌, ◌++◌, OnOk, OnErr};
 ghost use Rattle.std.specs.Fmt.{signed_decimal};
 ghost use Rattle.heap_words.specs.Cells.{decoded};
 ghost use Rattle.heap_words.specs.Trails.{Holds, KeepsLoads, Says};

@@ -3,7 +3,6 @@ ghost use Rattle.std.specs.Prelude.{◌≡◌, ℕ, ◌+◌, ◌-◌, ◌<◌, �
 ghost use Rattle.heap_words.specs.Cells.{encoded, decoded};
 ghost use Rattle.heap_words.specs.Trails.{Holds, KeepsLoads, Says};
 ghost use Rattle.ro_unify.specs.Walks.{Tame};
-ghost use Rattle.ro_unify.specs.Value.{look_word};
 ghost use Rattle.ro_unify.specs.Occurs.{stack, Each, count_of};
 ghost use Rattle.fcp_model.specs.Spelling.{string_text, name_at};
 ghost use Rattle.word_texts.specs.Turns.{
@@ -22,7 +21,6 @@ ghost use Rattle.word_texts.specs.Turns.{
 };
 
 use crate::items::{Bracket, Item, TextLists, push_item};
-use crate::leaf::write_leaf;
 use fcp_model::spelling::{push_bytes, push_string};
 use fcp_model::{Names, NoMemory, Sym};
 use heap_words::{Cell, Trail, Words, decode};

@@ -1,9 +1,9 @@
 //! The text of a value.
-ghost use Rattle.std.specs.Prelude.{◌≡◌, OnOk};
+ghost use Rattle.std.specs.Prelude.{◌≡◌, OnOk, OnErr};
 ghost use Rattle.heap_words.specs.Trails.{Holds, KeepsLoads, Says};
 ghost use Rattle.ro_unify.specs.Walks.{Tame};
 ghost use Rattle.word_texts.specs.Turns.{Appends};
-ghost use Rattle.word_texts.specs.Shown.{IsShown};
+ghost use Rattle.word_texts.specs.Shown.{IsShown, IsFront, Stops};
 
 use crate::items::{Item, TextLists, push_item};
 use crate::writing::write_all;
@@ -33,6 +33,8 @@ pub fn value_text<W: Words>(
     ensures tame { OnOk result (Tame trail.new.binds trail.new.kept (W.own words.new) (W.addresses words.new)) }
     ensures shown { OnOk result (Says (W.own words.new) trail.new.kept
         (λ m. IsShown m trail.old.binds names.now nodes word out.old.items out.new.items)) }
+    ensures front { OnErr result (Stops W.sound W.had W.leads W.later W.gave W.own trail.old.kept trail.old.binds words.old words.new
+        (λ m. IsFront m trail.old.binds names.now nodes word out.old.items out.new.items)) }
     ensures appended { Appends out.old.items out.new.items }
 {
     lists.items.clear();

@@ -1,11 +1,11 @@
 //! One item after another.
 ghost use Rattle.std.specs.Prelude.{◌≡◌, ℕ, ◌+◌, ◌<◌, ◌≤◌, ◌++◌, List, IfOk, OnOk, OnErr};
-ghost use Rattle.heap_words.specs.Cells.{decoded};
 ghost use Rattle.heap_words.specs.Trails.{Holds, KeepsLoads, Says};
 ghost use Rattle.ro_unify.specs.Walks.{Tame};
 ghost use Rattle.ro_unify.specs.Occurs.{stack, Each};
 ghost use Rattle.fcp_model.specs.Spelling.{Bytes};
-ghost use Rattle.word_texts.specs.Turns.{closing, Turned, Leads, Writes, Appends};
+ghost use Rattle.word_texts.specs.Turns.{closing, Turned, Leads, WritesAll, WritesSome, Appends};
+ghost use Rattle.word_texts.specs.Shown.{Stops};
 
 use crate::items::{Bracket, Item, TextLists, push_item};
 use crate::leaf::write_leaf;
@@ -221,7 +221,9 @@ pub(crate) fn write_all<W: Words>(
     ensures binds { trail.new.binds ≡ trail.old.binds }
     ensures reads { trail.new.reads.items ≡ trail.old.reads.items }
     ensures writes { OnOk result (Says (W.own words.new) trail.new.kept
-        (λ m. Writes trail.old.binds m names.now nodes (stack lists.old.items.items) out.old.items out.new.items)) }
+        (λ m. WritesAll trail.old.binds m names.now nodes (stack lists.old.items.items) out.old.items out.new.items)) }
+    ensures stops { OnErr result (Stops W.sound W.had W.leads W.later W.gave W.own trail.old.kept trail.old.binds words.old words.new
+        (λ m. WritesSome trail.old.binds m names.now nodes (stack lists.old.items.items) out.old.items out.new.items)) }
     ensures tame { OnOk result (Tame trail.new.binds trail.new.kept (W.own words.new) (W.addresses words.new)) }
     ensures appended { Appends out.old.items out.new.items }
 {
