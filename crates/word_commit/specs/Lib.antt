@@ -1,2 +1,8 @@
 pub mod Meanings
 pub mod Histories
+pub mod Views
+pub mod Kept
+pub mod Sights
+pub mod Openings
+pub mod Seats
+pub mod Calls

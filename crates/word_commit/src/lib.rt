@@ -2,9 +2,18 @@
 #![tactic(auto)]
 
 mod fits;
+mod give;
+mod journal;
+mod law;
+mod load;
 mod quota;
+mod store;
+mod take;
 mod taken;
+mod view;
 
 pub use fits::Fits;
 pub use quota::Quota;
+pub use store::{Seat, Store};
 pub use taken::Taken;
+pub use view::{Given, Look, Numbered, View};

@@ -1,0 +1,23 @@
+// What a seat keeps of its entries: of each what the log keeps, and its number in four bytes.
+ghost use Rattle.std.specs.Prelude.{◌≡◌, ◌+◌, ◌<◌, ◌≤◌, [], ◌∷◌, ◌++◌, vec_len, vec_capacity, IfOk};
+
+use std::alloc::{AllocError, Global};
+
+#[derive(Drop)]
+pub(crate) struct Journal<L> {
+    pub(crate) entries: Vec<L>,
+    pub(crate) numbers: Vec<u32>,
+    ghost paired: { vec_len entries ≡ vec_len numbers },
+}
+
+impl<L> Journal<L> {
+    /// An empty journal with room for so many entries.
+    pub(crate) fn with_room(alloc: Global, room: usize) -> Result<Journal<L>, AllocError>
+        ensures items { IfOk result (λ j. (j.entries.items ≡ []) × (j.numbers.items ≡ [])) }
+        ensures room { IfOk result (λ j. (vec_len j.entries ≡ 0) × (room ≤ vec_capacity j.entries) × (room ≤ vec_capacity j.numbers)) }
+    {
+        let numbers = Vec::with_capacity(alloc, room)?;
+        let entries = Vec::with_capacity(alloc, room)?;
+        Ok(Journal { entries, numbers })
+    }
+}
