@@ -6,3 +6,7 @@ pub mod Sights
 pub mod Loads
 pub mod Takes
 pub mod Begins
+pub mod Writes
+pub mod Clocks
+pub mod Stamps
+pub mod Seating

@@ -1,12 +1,13 @@
 -- Lists: what stands in them, and what stands where after a change.
-use Rattle.std.proofs.Common.{◌≡◌, ◌≢◌, ◌⊎◌, ℕ, zero, suc, ◌+◌, ◌*◌, ◌/◌, ◌<◌, ◌≤◌, List, [], ◌∷◌, ◌++◌, length, set, Bool, true, false, cond, refl, sym, ap, ◌∙◌, subst, ⊎_elim, inl, inr, arith, eq-eqb, ne_eqb, append_assoc, append-nil}
+use Rattle.std.proofs.Common.{◌≡◌, ◌≢◌, ◌⊎◌, ℕ, zero, suc, ◌+◌, ◌*◌, ◌/◌, ◌<◌, ◌≤◌, List, [], ◌∷◌, ◌++◌, length, set, drop, Option, Some, None, Bool, true, false, cond, refl, sym, ap, ◌∙◌, subst, ⊎_elim, inl, inr, arith, eq-eqb, ne_eqb, append_assoc, append-nil}
+use Rattle.std.specs.Prelude.{slice_get, unwrap_or}
 use mathlib.Core.Logic.{dite}
 use native.Mathlib.Decide.{ℕ_discrete}
 use mathlib.Core.Option.{some, some-ne-none}
 use lib.ListN.{get_elem?}
 use Rattle.atomic_table.proofs.Lists.{at_set}
 use Rattle.word_commit.specs.Meanings.{Meaning, Among}
-use Rattle.word_commit.specs.Histories.{Inside, Closed, AddsNothing}
+use Rattle.word_commit.specs.Histories.{Distinct, Inside, Closed, AddsNothing}
 use Rattle.word_commit.specs.Views.{elsewhere, outside, rest}
 use Rattle.word_commit.specs.Kept.{Plain}
 
@@ -73,3 +74,52 @@ module _ {E : Type 0} (m : Meaning E) where
   pub plain_inside : (ever : List (ℕ × ℕ)) (w : List ℕ) (l : List (ℕ × ℕ)) (a : ℕ) → Closed m.words ever w → ((x : ℕ × ℕ) → Among l x → Plain m ever x)
       → m.words.refers l a ≡ true → Inside m.words w a × (a < length w)
   plain_inside ever w l a closed plain h = plain_closed ever w closed [] l a (λ x g. absurd g) plain h
+
+elsewhere_none : (a : ℕ) (l : List (ℕ × ℕ)) → ((y : ℕ) → Among l (a, y) → ⊥) → elsewhere a l ≡ l
+elsewhere_none a [] none_there = refl
+elsewhere_none a (x ∷ xs) none_there = dite (ℕ_discrete x.0 a)
+    (λ e. absurd (none_there x.1 (inl (λ i. (e i, x.1)))))
+    (λ ne. subst (λ b. cond b (elsewhere a xs) (x ∷ elsewhere a xs) ≡ x ∷ xs) (sym (ne_eqb x.0 a ne)) (ap (λ l. x ∷ l) (elsewhere_none a xs (λ y h. none_there y (inr h)))))
+
+elsewhere_shorter : (a : ℕ) (l : List (ℕ × ℕ)) → Distinct l → length l ≤ suc (length (elsewhere a l))
+elsewhere_shorter a [] d = omega arith
+elsewhere_shorter a (x ∷ xs) d = dite (ℕ_discrete x.0 a)
+    (λ e. subst (λ b. suc (length xs) ≤ suc (length (cond b (elsewhere a xs) (x ∷ elsewhere a xs)))) (sym (eq-eqb x.0 a e))
+    (let s : length (elsewhere a xs) ≡ length xs = ap length (elsewhere_none a xs (λ y h. d.0 y (subst (λ (k : ℕ). Among xs (k, y)) (sym e) h))) in omega arith))
+    (λ ne. subst (λ b. suc (length xs) ≤ suc (length (cond b (elsewhere a xs) (x ∷ elsewhere a xs)))) (sym (ne_eqb x.0 a ne))
+    (let s = elsewhere_shorter a xs d.1 in let t : length (x ∷ elsewhere a xs) ≡ suc (length (elsewhere a xs)) = refl in omega arith))
+
+distinct_elsewhere : (a : ℕ) (l : List (ℕ × ℕ)) → Distinct l → Distinct (elsewhere a l)
+distinct_elsewhere a [] d = d
+distinct_elsewhere a (x ∷ xs) d = dite (ℕ_discrete x.0 a)
+    (λ e. subst (λ b. Distinct (cond b (elsewhere a xs) (x ∷ elsewhere a xs))) (sym (eq-eqb x.0 a e)) (distinct_elsewhere a xs d.1))
+    (λ ne. subst (λ b. Distinct (cond b (elsewhere a xs) (x ∷ elsewhere a xs))) (sym (ne_eqb x.0 a ne)) ((λ y h. d.0 y (among_elsewhere a xs (x.0, y) h).0), distinct_elsewhere a xs d.1))
+
+-- there are no more words at different addresses than addresses
+pub distinct_few : (n : ℕ) (l : List (ℕ × ℕ)) → Distinct l → ((x : ℕ × ℕ) → Among l x → x.0 < n) → length l ≤ n
+distinct_few zero [] d below = omega arith
+distinct_few zero (x ∷ xs) d below = absurd (let h = below x (inl refl) in omega arith)
+distinct_few (suc n) l d below =
+    let shorter = elsewhere_shorter n l d in
+    let few = distinct_few n (elsewhere n l) (distinct_elsewhere n l d) (λ x h. let t = among_elsewhere n l x h in let lt = below x t.0 in let ne = t.1 in omega arith) in omega arith
+
+-- the elements of a list from one on
+pub drop_here : (l : List (ℕ × ℕ)) (i : ℕ) (x : ℕ × ℕ) → slice_get l i ≡ Some x → (drop i l ≡ x ∷ drop (suc i) l) × (i < length l)
+drop_here [] i x e = absurd (none_some x e)
+  where
+    none_some : (x : ℕ × ℕ) → None ≡ Some x → ⊥
+    none_some x e = cc
+drop_here (y ∷ ys) zero x e = (ap (λ z. z ∷ ys) (some_same y x e), (let t : length (y ∷ ys) ≡ suc (length ys) = refl in omega arith))
+  where
+    some_same : (y x : ℕ × ℕ) → Some y ≡ Some x → y ≡ x
+    some_same y x e = ap (λ o. unwrap_or o y) e
+drop_here (y ∷ ys) (suc i) x e = let r = drop_here ys i x e in (r.0, (let h = r.1 in let t : length (y ∷ ys) ≡ suc (length ys) = refl in omega arith))
+
+pub drop_end : (l : List (ℕ × ℕ)) (i : ℕ) → slice_get l i ≡ None → drop i l ≡ []
+drop_end [] zero e = refl
+drop_end [] (suc i) e = refl
+drop_end (y ∷ ys) zero e = absurd (some_none y e)
+  where
+    some_none : (x : ℕ × ℕ) → Some x ≡ None → ⊥
+    some_none x e = cc
+drop_end (y ∷ ys) (suc i) e = drop_end ys i e

@@ -20,7 +20,7 @@ use Rattle.word_commit.specs.Kept.{words_of, page_at, IsShown, IsTrueOf, Lags, K
 use Rattle.word_commit.specs.Sights.{Sees, Tells}
 use Rattle.word_commit.proofs.Lists.{at_length, plain_inside}
 use Rattle.word_commit.proofs.Keeping.{S, Changes, changed}
-use Rattle.word_commit.proofs.Sights.{sees_alone}
+use Rattle.word_commit.proofs.Sights.{wide_fold, sees_alone}
 
 either_true : (b c : Bool) → cond b true c ≡ true → (b ≡ true) ⊎ (c ≡ true)
 either_true true c h = inl refl
@@ -83,14 +83,16 @@ module _ {E : Type 0} (m : Meaning E) where
     found_shown : (s : S E) (k : Kept m g s) (a : ℕ) → a < 1024 * g.pages → Inside m.words k.fold a → IsShown m (words_of g) k.ever k.fold (a, slice_index s.words a)
     found_shown s k a range inside =
         let w = k.fold in
+        let there : a < length w = let z = wide_fold m g s k in omega arith in
         let c = slice_index s.words a in ⊎_elim
         (λ (e : c ≡ slice_index w a). let stood = subst (λ (n : ℕ). Among k.ever (a, n)) (sym e) (k.stood a range inside) in record {
           plain = inl stood;
           inside = inside;
+          there = there;
           final = λ _. sym e;
           top = (k.within (a, c) stood).1;
         })
-        (λ (l : Lags m (words_of g) k.ever w s.views a c). record { plain = l.plain; inside = inside; final = λ f. absurd (true≢false (sym f ∙ l.soft)); top = l.top })
+        (λ (l : Lags m (words_of g) k.ever w s.views a c). record { plain = l.plain; inside = inside; there = there; final = λ f. absurd (true≢false (sym f ∙ l.soft)); top = l.top })
         (k.store a range inside)
 
     loaded_shown : (ever : List (ℕ × ℕ)) (w : List ℕ) (xs : List (ℕ × ℕ)) (a x : ℕ) → ((y : ℕ × ℕ) → Among xs y → IsShown m (words_of g) ever w y)

@@ -57,7 +57,7 @@ module _ {E : Type 0} (m : Meaning E) where
       let further = tops_world (suc n) w' es p (length-applied w (m.writes e n) ∙ size) law.1 in omega arith
 
   -- each entry takes a move or an extra entry
-  entries_below : (es : List E) → length es ≤ total (λ e. price Moves (m.cost e)) es + total (λ e. price Extra (m.cost e)) es
+  pub entries_below : (es : List E) → length es ≤ total (λ e. price Moves (m.cost e)) es + total (λ e. price Extra (m.cost e)) es
   entries_below [] = omega arith
   entries_below (e ∷ es) = let a = takes_one (m.cost e) in let b = entries_below es in omega arith
 

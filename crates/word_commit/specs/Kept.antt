@@ -52,6 +52,7 @@ module _ {E : Type 0} (m : Meaning E) where
   pub record IsShown (first : List ℕ) (ever : List (ℕ × ℕ)) (w : List ℕ) (x : ℕ × ℕ) : Type 0 where
     pub plain : Plain ever x
     pub inside : Inside m.words w x.0
+    pub there : x.0 < length w
     -- where it is final it is still there
     pub final : m.words.is_final x.1 ≡ true → slice_index w x.0 ≡ x.1
     pub top : IsBetween first w x

@@ -6,3 +6,4 @@ pub mod Sights
 pub mod Openings
 pub mod Seats
 pub mod Calls
+pub mod Conditions

@@ -139,15 +139,15 @@ module _ {E : Type 0} where
   abbrev pub published : View E → ℕ → ℕ → View E
   published v a x = record v { grip = record v.grip { known = (a, x) ∷ elsewhere a v.grip.known; due = rest v.grip.due } }
 
+  -- all of these words were written
+  abbrev pub all_published : View E → List (ℕ × ℕ) → View E
+  all_published v [] = v
+  all_published v (x ∷ xs) = all_published (published v x.0 x.1) xs
+
   -- the clock was found to be this number
   abbrev pub clocked : View E → ℕ → View E
   clocked v n = record v { looks = Clock n ∷ v.looks; front = n }
 
-  -- an entry got the number that follows the clock that was found
+  -- an entry got this number
   abbrev pub stamped : Meaning E → View E → E → ℕ → View E
-  stamped m v e n = record v {
-    entries = v.entries ++ record { number = suc n; entry = e } ∷ [];
-    front = suc n;
-    grip = record v.grip { due = m.writes e (suc n) };
-    purse = paid v.purse (m.cost e);
-  }
+  stamped m v e n = record v { entries = v.entries ++ record { number = n; entry = e } ∷ []; front = n; grip = record v.grip { due = m.writes e n }; purse = paid v.purse (m.cost e) }

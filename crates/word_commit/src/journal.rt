@@ -20,4 +20,16 @@ impl<L> Journal<L> {
         let entries = Vec::with_capacity(alloc, room)?;
         Ok(Journal { entries, numbers })
     }
+
+    /// Appends an entry, for which there is room.
+    pub(crate) fn push(&mut self, number: u32, entry: L)
+        requires room { (vec_len self.old.entries < vec_capacity self.old.entries) × (vec_len self.old.entries < vec_capacity self.old.numbers) }
+        ensures entries { self.new.entries.items ≡ self.old.entries.items ++ entry ∷ [] }
+        ensures numbers { self.new.numbers.items ≡ self.old.numbers.items ++ number ∷ [] }
+        ensures len { vec_len self.new.entries ≡ vec_len self.old.entries + 1 }
+        ensures room { (vec_capacity self.new.entries ≡ vec_capacity self.old.entries) × (vec_capacity self.new.numbers ≡ vec_capacity self.old.numbers) }
+    {
+        self.numbers.push_reserved(number);
+        self.entries.push_reserved(entry);
+    }
 }

@@ -1,12 +1,16 @@
 //! A store of words that several seats share: pages that one seat holds at a time, and entries that one atomic step numbers.
 #![tactic(auto)]
 
+mod clock;
 mod fits;
 mod give;
 mod journal;
 mod law;
 mod load;
+mod prime;
+mod publish;
 mod quota;
+mod stamp;
 mod store;
 mod take;
 mod taken;

@@ -1,4 +1,5 @@
 ghost use Rattle.std.specs.Prelude.{◌≡◌, ◌+◌, ◌*◌, ◌/◌, ◌<◌, ◌≤◌, ◌^◌, ℕ, [], ◌∷◌, ◌++◌, map, length, vec_len, vec_capacity, slice_index, IfOk};
+ghost use Rattle.word_commit.specs.Meanings.{Among};
 ghost use Rattle.word_commit.specs.Kept.{words_of, numbers_of};
 ghost use Rattle.word_commit.specs.Views.{first_view};
 ghost use Rattle.word_commit.specs.Openings.{MayOpen};
@@ -44,6 +45,8 @@ pub struct Seat<F: Fits> {
     ghost alive: { 0 < token.me.0.purse.rights },
     ghost rich: { Has token.me.0.purse funds },
     ghost due: { token.me.0.grip.due ≡ due_of F.means pending },
+    ghost there: { (x : ℕ × ℕ) → Among token.me.0.grip.due x → x.0 < token.table_id.words },
+    ghost few: { length token.me.0.grip.due < token.table_id.words },
     ghost kept: { kept_of F.logged token.me.0.entries ≡ journal.entries.items ++ kept_of F.logged (pending_of pending) },
     ghost numbers: { numbers_of token.me.0.entries ≡ journal.numbers.items ++ numbers_of (pending_of pending) },
     ghost room: { (vec_len journal.entries + length (pending_of pending) + spare ≤ vec_capacity journal.entries) × (vec_len journal.entries + length (pending_of pending) + spare ≤ vec_capacity journal.numbers) },
