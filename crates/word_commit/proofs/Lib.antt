@@ -10,3 +10,4 @@ pub mod Writes
 pub mod Clocks
 pub mod Stamps
 pub mod Seating
+pub mod Shares

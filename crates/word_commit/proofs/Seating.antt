@@ -6,7 +6,7 @@ use Rattle.word_commit.specs.declared.view.View.{View}
 use Rattle.word_commit.specs.declared.view.Purse.{Purse}
 use Rattle.word_commit.specs.declared.view.Numbered.{Numbered}
 use Rattle.word_commit.specs.Meanings.{Meaning}
-use Rattle.word_commit.specs.Views.{Commits, Moves, Cells, rest, paid, published, all_published}
+use Rattle.word_commit.specs.Views.{Commits, Moves, Cells, rest, paid, published, all_published, joined}
 use Rattle.word_commit.specs.Kept.{numbers_of}
 use Rattle.word_commit.specs.Conditions.{Affords}
 use Rattle.word_commit.specs.Seats.{Has, pending_of, due_of, kept_of}
@@ -102,3 +102,36 @@ module _ {E : Type 0} where
         end = let h = r.1 in omega arith;
         view = ap (λ (w : View E). all_published w w.grip.due) is ∙ step.0;
       }
+
+module _ {E L : Type 0} (f : E → L) where
+  pub length-kept_of : (es : List (Numbered E)) → length (kept_of f es) ≡ length es
+  length-kept_of [] = refl
+  length-kept_of (x ∷ es) = ap (λ (n : ℕ). suc n) (length-kept_of es)
+
+  -- with nothing pending the journal is as long as the list of entries
+  pub length_kept : (es : List (Numbered E)) (js : List L) (p : Option (Numbered E)) → p ≡ None → kept_of f es ≡ js ++ kept_of f (pending_of p) → length js ≡ length es
+  length_kept es js p n e = ap length (sym (append-nil js)) ∙ ap (λ q. length (js ++ kept_of f (pending_of q))) (sym n) ∙ sym (ap length e) ∙ length-kept_of es
+
+  pub kept_joined : (vs ws es : List (Numbered E)) (js ks ls : List L) (p q : Option (Numbered E)) → es ≡ vs ++ ws → kept_of f vs ≡ js ++ kept_of f (pending_of p) → p ≡ None
+      → kept_of f ws ≡ ks ++ kept_of f (pending_of q) → q ≡ None → ls ≡ js ++ ks → kept_of f es ≡ ls ++ kept_of f (pending_of p)
+  kept_joined vs ws es js ks ls p q e v n w o l =
+      let a : kept_of f vs ≡ js = subst (λ z. kept_of f vs ≡ js ++ kept_of f (pending_of z)) n v ∙ append-nil js in
+      let b : kept_of f ws ≡ ks = subst (λ z. kept_of f ws ≡ ks ++ kept_of f (pending_of z)) o w ∙ append-nil ks in
+      ap (kept_of f) e ∙ kept_both f vs ws ∙ ap (λ z. z ++ kept_of f ws) a ∙ ap (λ z. js ++ z) b ∙ sym l ∙ sym (append-nil ls) ∙ ap (λ z. ls ++ kept_of f (pending_of z)) (sym n)
+
+module _ {E : Type 0} where
+  pub numbers_joined : (vs ws es : List (Numbered E)) (js ks ls : List ℕ) (p q : Option (Numbered E)) → es ≡ vs ++ ws → numbers_of vs ≡ js ++ numbers_of (pending_of p) → p ≡ None
+      → numbers_of ws ≡ ks ++ numbers_of (pending_of q) → q ≡ None → ls ≡ js ++ ks → numbers_of es ≡ ls ++ numbers_of (pending_of p)
+  numbers_joined vs ws es js ks ls p q e v n w o l =
+      let a : numbers_of vs ≡ js = subst (λ z. numbers_of vs ≡ js ++ numbers_of (pending_of z)) n v ∙ append-nil js in
+      let b : numbers_of ws ≡ ks = subst (λ z. numbers_of ws ≡ ks ++ numbers_of (pending_of z)) o w ∙ append-nil ks in
+      ap numbers_of e ∙ numbers_both vs ws ∙ ap (λ z. z ++ numbers_of ws) a ∙ ap (λ z. js ++ z) b ∙ sym l ∙ sym (append-nil ls) ∙ ap (λ z. ls ++ numbers_of (pending_of z)) (sym n)
+
+  pub room_joined : (p : Option (Numbered E)) (len more spare n room room' : ℕ) → n ≡ more → more ≤ spare → room ≤ room' → len + length (pending_of p) + spare ≤ room
+      → len + more + length (pending_of p) + (spare - n) ≤ room'
+  room_joined p len more spare n room room' e le up h = omega arith
+
+  pub has_joined : (v w : View E) (a b c : Quota) → Has v.purse a → Has w.purse b
+      → (c.commits ≡ a.commits + b.commits) × (c.moves ≡ a.moves + b.moves) × (c.cells ≡ a.cells + b.cells) → Has (joined v w).purse c
+  has_joined v w a b c x y z = let x0 = x.0 in let x1 = x.1 in let x2 = x.2 in let y0 = y.0 in let y1 = y.1 in let y2 = y.2 in let z0 = z.0 in let z1 = z.1 in let z2 = z.2 in
+      (omega arith, omega arith, omega arith)

@@ -1,5 +1,6 @@
 -- What a seat owes before it writes.
 use Rattle.std.specs.Prelude.{◌≡◌, ◌⊎◌, ℕ, ◌+◌, ◌*◌, ◌/◌, ◌^◌, ◌<◌, ◌≤◌, List, [], length, true, false, slice_index}
+use Rattle.word_commit.specs.declared.quota.Quota.{Quota}
 use Rattle.word_commit.specs.declared.view.View.{View}
 use Rattle.word_commit.specs.declared.view.Given.{Given}
 use Rattle.word_commit.specs.Meanings.{Wording, Meaning, Among}
@@ -22,6 +23,11 @@ module _ (m : Wording) where
   -- it was written before: as it is, or as a word that is not final and adds nothing to what words refer to
   abbrev pub IsPrimed : List (ℕ × ℕ) → ℕ × ℕ → Type 0
   IsPrimed known x = (y : ℕ) × Among known (x.0, y) × ((y ≡ x.1) ⊎ ((m.is_final y ≡ false) × AddsNothing m (x.0, y)))
+
+module _ {E : Type 0} where
+  -- a quota within what a view has left
+  abbrev pub IsWithin : Quota → View E → Type 0
+  IsWithin q v = (q.commits ≤ v.purse.commits) × (q.moves ≤ v.purse.moves) × (q.cells ≤ v.purse.cells)
 
 module _ {E : Type 0} (m : Meaning E) where
   -- the quota that is left suffices

@@ -151,3 +151,35 @@ module _ {E : Type 0} where
   -- an entry got this number
   abbrev pub stamped : Meaning E → View E → E → ℕ → View E
   stamped m v e n = record v { entries = v.entries ++ record { number = n; entry = e } ∷ []; front = n; grip = record v.grip { due = m.writes e n }; purse = paid v.purse (m.cost e) }
+
+  -- what is left of a view of which a seat was shared with this quota
+  abbrev pub shared : View E → Quota → View E
+  shared v q = record v { purse = record { commits = v.purse.commits - q.commits; moves = v.purse.moves - q.moves; cells = v.purse.cells - q.cells; extra = v.purse.extra; rights = v.purse.rights - 1 } }
+
+  -- the view of that seat
+  abbrev pub part : View E → Quota → View E
+  part v q = record {
+    entries = [];
+    front = v.front;
+    looks = [];
+    grip = record { held = []; known = []; due = [] };
+    purse = record { commits = q.commits; moves = q.moves; cells = q.cells; extra = 0; rights = 1 };
+  }
+
+  -- a view that took in another's entries, quota and rights
+  abbrev pub joined : View E → View E → View E
+  joined v w = record v {
+    entries = v.entries ++ w.entries;
+    front = max v.front w.front;
+    purse = record {
+      commits = v.purse.commits + w.purse.commits;
+      moves = v.purse.moves + w.purse.moves;
+      cells = v.purse.cells + w.purse.cells;
+      extra = v.purse.extra + w.purse.extra;
+      rights = v.purse.rights + w.purse.rights;
+    };
+  }
+
+  -- what is left of the other
+  abbrev pub spent : View E
+  spent = record { entries = []; front = 0; looks = []; grip = record { held = []; known = []; due = [] }; purse = record { commits = 0; moves = 0; cells = 0; extra = 0; rights = 0 } }

@@ -32,4 +32,36 @@ impl<L> Journal<L> {
         self.numbers.push_reserved(number);
         self.entries.push_reserved(entry);
     }
+
+    /// Takes in the entries of another journal, for which there is room.
+    pub(crate) fn append(&mut self, other: Journal<L>)
+        requires room { (vec_len self.old.entries + vec_len other.entries ≤ vec_capacity self.old.entries) × (vec_len self.old.entries + vec_len other.entries ≤ vec_capacity self.old.numbers) }
+        ensures entries { self.new.entries.items ≡ self.old.entries.items ++ other.entries.items }
+        ensures numbers { self.new.numbers.items ≡ self.old.numbers.items ++ other.numbers.items }
+        ensures len { vec_len self.new.entries ≡ vec_len self.old.entries + vec_len other.entries }
+        ensures room { (vec_capacity self.old.entries ≤ vec_capacity self.new.entries) × (vec_capacity self.old.numbers ≤ vec_capacity self.new.numbers) }
+    {
+        let Journal { entries, numbers } = other;
+        move_all(&mut self.entries, entries);
+        move_all(&mut self.numbers, numbers);
+    }
+
+    /// How many entries there are.
+    pub(crate) fn len(&self) -> usize
+        ensures { result ≡ vec_len self.now.entries }
+    {
+        self.entries.len()
+    }
+}
+
+/// Moves the elements of a vector to the end of another, which has room for them.
+fn move_all<T>(to: &mut Vec<T>, from: Vec<T>)
+    requires { vec_len to.old + vec_len from ≤ vec_capacity to.old }
+    ensures items { to.new.items ≡ to.old.items ++ from.items }
+    ensures len { vec_len to.new ≡ vec_len to.old + vec_len from }
+    ensures room { vec_capacity to.old ≤ vec_capacity to.new }
+{
+    let mut from = from;
+    let _ = to.append(&mut from);
+    from.destroy_empty();
 }

@@ -4,12 +4,14 @@
 mod clock;
 mod fits;
 mod give;
+mod join;
 mod journal;
 mod law;
 mod load;
 mod prime;
 mod publish;
 mod quota;
+mod share;
 mod stamp;
 mod store;
 mod take;
@@ -18,6 +20,7 @@ mod view;
 
 pub use fits::Fits;
 pub use quota::Quota;
+pub use share::Shared;
 pub use store::{Seat, Store};
 pub use taken::Taken;
 pub use view::{Given, Look, Numbered, View};

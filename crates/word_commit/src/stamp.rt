@@ -11,7 +11,7 @@ use crate::view::Numbered;
 use std::marker::Brand;
 
 /// What is left of a quota after a cost.
-fn less(funds: Quota, cost: Quota) -> Quota
+pub(crate) fn less(funds: Quota, cost: Quota) -> Quota
     requires { (cost.commits ≤ funds.commits) × (cost.moves ≤ funds.moves) × (cost.cells ≤ funds.cells) }
     ensures { (result.commits ≡ funds.commits - cost.commits) × (result.moves ≡ funds.moves - cost.moves) × (result.cells ≡ funds.cells - cost.cells) }
 {

@@ -29,6 +29,7 @@ pub struct Store<F: Fits> {
     ghost key: { table.shared.key.pages ≡ pages },
     ghost small: { pages ≤ 3906250 },
     ghost few: { table.shared.key.quota.moves + table.shared.key.extra < 2 ^ 32 },
+    ghost limits: { (table.shared.key.quota.commits < 2 ^ 32) × (table.shared.key.quota.cells < 2 ^ 32) },
 }
 
 /// What steps on a store: a view of it, and the entries that were made with it.
