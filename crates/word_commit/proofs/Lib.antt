@@ -11,3 +11,4 @@ pub mod Clocks
 pub mod Stamps
 pub mod Seating
 pub mod Shares
+pub mod Arranging

@@ -7,3 +7,4 @@ pub mod Openings
 pub mod Seats
 pub mod Calls
 pub mod Conditions
+pub mod Closings

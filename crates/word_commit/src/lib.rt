@@ -1,6 +1,7 @@
 //! A store of words that several seats share: pages that one seat holds at a time, and entries that one atomic step numbers.
 #![tactic(auto)]
 
+mod arrange;
 mod clock;
 mod fits;
 mod give;
