@@ -12,3 +12,4 @@ pub mod Stamps
 pub mod Seating
 pub mod Shares
 pub mod Arranging
+pub mod Ends

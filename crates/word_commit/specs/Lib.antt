@@ -8,3 +8,4 @@ pub mod Seats
 pub mod Calls
 pub mod Conditions
 pub mod Closings
+pub mod ClosedWords

@@ -46,6 +46,17 @@ impl<L> Journal<L> {
         move_all(&mut self.numbers, numbers);
     }
 
+    /// The entries alone.
+    pub(crate) fn into_entries(self) -> Vec<L>
+        ensures { result.items ≡ self.entries.items }
+    {
+        let Journal {
+            entries,
+            numbers: _,
+        } = self;
+        entries
+    }
+
     /// How many entries there are.
     pub(crate) fn len(&self) -> usize
         ensures { result ≡ vec_len self.now.entries }

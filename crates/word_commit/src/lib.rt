@@ -3,6 +3,8 @@
 
 mod arrange;
 mod clock;
+mod close;
+mod closed;
 mod fits;
 mod give;
 mod join;
@@ -19,6 +21,7 @@ mod take;
 mod taken;
 mod view;
 
+pub use closed::{Closed, ClosedWords};
 pub use fits::Fits;
 pub use quota::Quota;
 pub use share::Shared;
