@@ -9,3 +9,4 @@ pub mod Calls
 pub mod Conditions
 pub mod Closings
 pub mod ClosedWords
+pub mod Shows

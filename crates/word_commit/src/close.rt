@@ -1,4 +1,5 @@
 ghost use Rattle.std.specs.Prelude.{◌≡◌, []};
+ghost use Rattle.word_commit.specs.Shows.{IsSeatOf, view_of, given_of};
 ghost use Rattle.word_commit.specs.Views.{all_rights};
 ghost use Rattle.word_commit.specs.Closings.{Closes};
 ghost use Rattle.word_commit.specs.ClosedWords.{closed_words};
@@ -11,11 +12,11 @@ use fcp_model::Seq;
 impl<F: Fits> Store<F> {
     /// The words and the log, when no other seat is left.
     pub fn close(self, seat: Seat<F>) -> Closed<F::Logged>
-        requires seat { seat.token.table_id ≡ self.table.shared.table_id }
-        requires alone { seat.token.me.0.purse.rights ≡ all_rights }
-        requires free { seat.token.me.0.grip.held ≡ [] }
-        requires idle { seat.token.me.0.grip.due ≡ [] }
-        ensures { Closes F.means F.logged self.table.shared.key seat.token.me.0 (closed_words result.words) result.log }
+        requires seat { IsSeatOf self seat }
+        requires alone { (view_of seat).purse.rights ≡ all_rights }
+        requires free { (view_of seat).grip.held ≡ [] }
+        requires idle { (view_of seat).grip.due ≡ [] }
+        ensures { Closes F.means F.logged (given_of self) (view_of seat) (closed_words result.words) result.log }
     {
         let mut seat = seat;
         seat.settle();

@@ -1,4 +1,5 @@
 ghost use Rattle.std.specs.Prelude.{◌≡◌, ◌+◌, ◌<◌, ◌≤◌, ◌^◌, [], length};
+ghost use Rattle.word_commit.specs.Shows.{IsSeatOf, view_of, spare_of};
 ghost use Rattle.word_commit.specs.Views.{joined};
 
 use crate::fits::Fits;
@@ -31,14 +32,14 @@ impl<F: Fits> Store<F> {
 
     /// One seat with the entries, the quota and the rights of both.
     pub fn join(&self, seat: Seat<F>, other: Seat<F>) -> Seat<F>
-        requires seat { seat.token.table_id ≡ self.now.table.shared.table_id }
-        requires other { other.token.table_id ≡ self.now.table.shared.table_id }
-        requires free { (seat.token.me.0.grip.held ≡ []) × (other.token.me.0.grip.held ≡ []) }
-        requires idle { (seat.token.me.0.grip.due ≡ []) × (other.token.me.0.grip.due ≡ []) }
-        requires room { length other.token.me.0.entries ≤ seat.spare }
-        ensures seat { result.token.table_id ≡ seat.token.table_id }
-        ensures view { result.token.me.0 ≡ joined seat.token.me.0 other.token.me.0 }
-        ensures spare { result.spare + length other.token.me.0.entries ≡ seat.spare }
+        requires seat { IsSeatOf self.now seat }
+        requires other { IsSeatOf self.now other }
+        requires free { ((view_of seat).grip.held ≡ []) × ((view_of other).grip.held ≡ []) }
+        requires idle { ((view_of seat).grip.due ≡ []) × ((view_of other).grip.due ≡ []) }
+        requires room { length (view_of other).entries ≤ spare_of seat }
+        ensures seat { IsSeatOf self.now result }
+        ensures view { view_of result ≡ joined (view_of seat) (view_of other) }
+        ensures spare { spare_of result + length (view_of other).entries ≡ spare_of seat }
     {
         let mut seat = seat;
         let mut other = other;

@@ -1,4 +1,5 @@
 ghost use Rattle.std.specs.Prelude.{◌≡◌, ◌*◌, ◌<◌};
+ghost use Rattle.word_commit.specs.Shows.{IsSeatOf, view_of, spare_of, given_of};
 ghost use Rattle.word_commit.specs.Views.{loaded};
 ghost use Rattle.word_commit.specs.Sights.{Tells};
 
@@ -9,11 +10,11 @@ use std::marker::Brand;
 impl<F: Fits> Store<F> {
     /// The word at an address, by one load. All that the seat saw at known addresses is of one lawful history.
     pub fn load(&self, seat: &mut Seat<F>, addr: u32) -> u64
-        requires seat { seat.old.token.table_id ≡ self.now.table.shared.table_id }
-        requires addr { addr < 1024 * self.now.table.shared.key.pages }
-        ensures seat { (seat.new.token.table_id ≡ seat.old.token.table_id) × (seat.new.spare ≡ seat.old.spare) }
-        ensures view { seat.new.token.me.0 ≡ loaded F.means seat.old.token.me.0 addr result }
-        ensures tells { Tells F.means self.now.table.shared.key seat.old.token.me.0 seat.new.token.me.0 addr result }
+        requires seat { IsSeatOf self.now seat.old }
+        requires addr { addr < 1024 * (given_of self.now).pages }
+        ensures seat { IsSeatOf self.now seat.new × (spare_of seat.new ≡ spare_of seat.old) }
+        ensures view { view_of seat.new ≡ loaded F.means (view_of seat.old) addr result }
+        ensures tells { Tells F.means (given_of self.now) (view_of seat.old) (view_of seat.new) addr result }
     {
         self.table
             .shared

@@ -1,4 +1,5 @@
 ghost use Rattle.std.specs.Prelude.{◌≡◌, ◌+◌, ◌<◌, ◌≤◌, ◌^◌, ℕ, [], length};
+ghost use Rattle.word_commit.specs.Shows.{IsSeatOf, view_of, spare_of};
 ghost use Rattle.word_commit.specs.Meanings.{Among};
 ghost use Rattle.word_commit.specs.Views.{all_published};
 
@@ -27,10 +28,10 @@ impl<F: Fits> Store<F> {
 
     /// Writes the words of the entry that was stamped last.
     pub fn publish(&self, seat: &mut Seat<F>)
-        requires seat { seat.old.token.table_id ≡ self.now.table.shared.table_id }
-        ensures seat { (seat.new.token.table_id ≡ seat.old.token.table_id) × (seat.new.spare ≡ seat.old.spare) }
-        ensures view { seat.new.token.me.0 ≡ all_published seat.old.token.me.0 seat.old.token.me.0.grip.due }
-        ensures none { seat.new.token.me.0.grip.due ≡ [] }
+        requires seat { IsSeatOf self.now seat.old }
+        ensures seat { IsSeatOf self.now seat.new × (spare_of seat.new ≡ spare_of seat.old) }
+        ensures view { view_of seat.new ≡ all_published (view_of seat.old) (view_of seat.old).grip.due }
+        ensures none { (view_of seat.new).grip.due ≡ [] }
     {
         if let Some(Numbered { number, entry }) = seat.pending.take() {
             self.write_all(&mut seat.token, &entry, number);

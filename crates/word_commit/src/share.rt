@@ -1,4 +1,5 @@
 ghost use Rattle.std.specs.Prelude.{◌≡◌, ◌<◌, []};
+ghost use Rattle.word_commit.specs.Shows.{IsSeatOf, view_of, spare_of};
 ghost use Rattle.word_commit.specs.Views.{shared, part};
 ghost use Rattle.word_commit.specs.Conditions.{IsWithin};
 ghost use Rattle.word_commit.specs.Calls.{MatchShared};
@@ -34,17 +35,17 @@ impl<F: Fits> Store<F> {
 
     /// A second seat, with this quota, and with room for as many entries as it has moves.
     pub fn share(&self, alloc: Global, seat: Seat<F>, quota: Quota) -> Shared<Seat<F>>
-        requires seat { seat.token.table_id ≡ self.now.table.shared.table_id }
-        requires rights { 1 < seat.token.me.0.purse.rights }
-        requires within { IsWithin quota seat.token.me.0 }
-        requires free { seat.token.me.0.grip.held ≡ [] }
+        requires seat { IsSeatOf self.now seat }
+        requires rights { 1 < (view_of seat).purse.rights }
+        requires within { IsWithin quota (view_of seat) }
+        requires free { (view_of seat).grip.held ≡ [] }
         ensures seats { MatchShared result
-            (λ a b. (a.token.table_id ≡ seat.token.table_id) × (b.token.table_id ≡ seat.token.table_id))
-            (λ a. a.token.table_id ≡ seat.token.table_id) }
+            (λ a b. IsSeatOf self.now a × IsSeatOf self.now b)
+            (λ a. IsSeatOf self.now a) }
         ensures views { MatchShared result
-            (λ a b. (a.token.me.0 ≡ shared seat.token.me.0 quota) × (b.token.me.0 ≡ part seat.token.me.0 quota))
-            (λ a. a.token.me.0 ≡ seat.token.me.0) }
-        ensures spare { MatchShared result (λ a b. (a.spare ≡ seat.spare) × (b.spare ≡ quota.moves)) (λ a. a.spare ≡ seat.spare) }
+            (λ a b. (view_of a ≡ shared (view_of seat) quota) × (view_of b ≡ part (view_of seat) quota))
+            (λ a. view_of a ≡ view_of seat) }
+        ensures spare { MatchShared result (λ a b. (spare_of a ≡ spare_of seat) × (spare_of b ≡ quota.moves)) (λ a. spare_of a ≡ spare_of seat) }
     {
         let spare = quota.moves as usize;
         let Ok(journal) = Journal::with_room(alloc, spare) else {

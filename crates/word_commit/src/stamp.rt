@@ -1,4 +1,5 @@
 ghost use Rattle.std.specs.Prelude.{◌≡◌, ◌+◌, ◌-◌, ◌<◌, ◌≤◌, ◌^◌, ℕ, suc, [], None, length};
+ghost use Rattle.word_commit.specs.Shows.{IsSeatOf, view_of, spare_of, given_of};
 ghost use Rattle.word_commit.specs.Meanings.{Among};
 ghost use Rattle.word_commit.specs.Views.{stamped};
 ghost use Rattle.word_commit.specs.Conditions.{Affords, MayStamp};
@@ -54,13 +55,13 @@ impl<F: Fits> Store<F> {
 
     /// Gives the entry its number, by one step on the clock. That number is above all that the seat saw.
     pub fn stamp(&self, seat: &mut Seat<F>, entry: F::Entry) -> u64
-        requires seat { seat.old.token.table_id ≡ self.now.table.shared.table_id }
-        requires room { 0 < seat.old.spare }
-        requires affords { Affords F.means seat.old.token.me.0 entry }
-        requires may { (n : ℕ) → n < 2 ^ 32 → MayStamp F.means self.now.table.shared.key seat.old.token.me.0 entry n }
-        ensures seat { (seat.new.token.table_id ≡ seat.old.token.table_id) × (seat.new.spare + 1 ≡ seat.old.spare) }
-        ensures number { (seat.old.token.me.0.front < result) × (result < 2 ^ 32) }
-        ensures view { seat.new.token.me.0 ≡ stamped F.means seat.old.token.me.0 entry result }
+        requires seat { IsSeatOf self.now seat.old }
+        requires room { 0 < spare_of seat.old }
+        requires affords { Affords F.means (view_of seat.old) entry }
+        requires may { (n : ℕ) → n < 2 ^ 32 → MayStamp F.means (given_of self.now) (view_of seat.old) entry n }
+        ensures seat { IsSeatOf self.now seat.new × (spare_of seat.new + 1 ≡ spare_of seat.old) }
+        ensures number { ((view_of seat.old).front < result) × (result < 2 ^ 32) }
+        ensures view { view_of seat.new ≡ stamped F.means (view_of seat.old) entry result }
     {
         seat.settle();
         let number = self.stamp_as::<Brand>(&mut seat.token, &entry) + 1;

@@ -69,6 +69,8 @@ fn lay_out(words: Vec<u64>, pages: usize) -> Result<Vec<u64>, NoMemory>
 }
 
 impl<F: Fits> Store<F> {
+    ghost use Rattle.word_commit.specs.Shows.{IsSeatOf, view_of, spare_of, given_of};
+
     /// A store of these words, and its first seat, which has the quota and room for all its entries and the extra ones.
     pub fn make(
         alloc: Global,
@@ -78,10 +80,10 @@ impl<F: Fits> Store<F> {
     ) -> Result<(Store<F>, Seat<F>), NoMemory>
         requires words { MayOpen F.means.words words.items }
         requires few { quota.moves + extra < 2 ^ 32 }
-        ensures given { IfOk result (λ r. (words_of r.0.table.shared.key ≡ words.items) × (r.0.table.shared.key.pages ≡ vec_len words / 1024) × (r.0.table.shared.key.quota ≡ quota) × (r.0.table.shared.key.extra ≡ extra)) }
-        ensures seat { IfOk result (λ r. r.1.token.table_id ≡ r.0.table.shared.table_id) }
-        ensures view { IfOk result (λ r. r.1.token.me.0 ≡ first_view r.0.table.shared.key) }
-        ensures spare { IfOk result (λ r. r.1.spare ≡ quota.moves + extra) }
+        ensures given { IfOk result (λ r. (words_of (given_of r.0) ≡ words.items) × ((given_of r.0).pages ≡ vec_len words / 1024) × ((given_of r.0).quota ≡ quota) × ((given_of r.0).extra ≡ extra)) }
+        ensures seat { IfOk result (λ r. IsSeatOf r.0 r.1) }
+        ensures view { IfOk result (λ r. view_of r.1 ≡ first_view (given_of r.0)) }
+        ensures spare { IfOk result (λ r. spare_of r.1 ≡ quota.moves + extra) }
     {
         let pages = words.len() / PAGE;
         let spare = quota.moves as usize + extra as usize;
@@ -116,14 +118,14 @@ impl<F: Fits> Store<F> {
 
     /// The number of pages.
     pub fn pages(&self) -> u32
-        ensures { result ≡ self.now.table.shared.key.pages }
+        ensures { result ≡ (given_of self.now).pages }
     {
         self.pages
     }
 
     /// What the seat may still spend, but for extra entries.
     pub fn quota(&self, seat: &Seat<F>) -> Quota
-        ensures { Has seat.now.token.me.0.purse result }
+        ensures { Has (view_of seat.now).purse result }
     {
         seat.funds
     }
