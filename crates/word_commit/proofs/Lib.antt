@@ -13,3 +13,4 @@ pub mod Seating
 pub mod Shares
 pub mod Arranging
 pub mod Ends
+pub mod Effects

@@ -118,7 +118,8 @@ impl<F: Fits> Store<F> {
 
     /// The number of pages.
     pub fn pages(&self) -> u32
-        ensures { result ≡ (given_of self.now).pages }
+        ensures pages { result ≡ (given_of self.now).pages }
+        ensures small { result ≤ 3906250 }
     {
         self.pages
     }

@@ -1,0 +1,3 @@
+pub mod Purses
+pub mod PurseLaws
+pub mod Transfers

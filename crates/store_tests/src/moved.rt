@@ -1,0 +1,9 @@
+/// How a transfer ended.
+#[derive(Clone, Copy, Debug, PartialEq, Eq)]
+pub enum Moved {
+    Done,
+    /// Another seat held one of the pages.
+    Busy,
+    /// There is no such purse, or nothing is in it.
+    Empty,
+}
