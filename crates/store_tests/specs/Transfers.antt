@@ -26,7 +26,7 @@ pub record Looks (old new : View Transfer) (page t x : ℕ) : Type 0 where
 
 -- how many transfers were made
 abbrev pub count_of : Moved → ℕ
-count_of Done = 1
+count_of (Done n) = 1
 count_of Busy = 0
 count_of Empty = 0
 

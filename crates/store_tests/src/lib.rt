@@ -1,10 +1,14 @@
 //! The shared store tried out: purses of which seats in several threads move money.
 #![tactic(auto)]
 
+mod banks;
 mod moved;
 mod purses;
+mod spending;
 mod transfers;
 
+pub use banks::bank;
 pub use moved::Moved;
 pub use purses::{Purses, Transfer};
-pub use transfers::transfer;
+pub use spending::{Tally, spend};
+pub use transfers::{glances, transfer};

@@ -1,7 +1,7 @@
 use Rattle.std.proofs.Common.{arith, ℕ, ◌∙◌, ◌*◌, ◌+◌, ap}
 use Rattle.word_commit.specs.Shows.{given_of, view_of}
 use Rattle.store_tests.proofs.Moves.{Purse, may_move}
-use Rattle.store_tests.proofs.transfers.move_coin.Goals as goal
+use Rattle.store_tests.proofs.transfers.stamp_coin.Goals as goal
 
 pub stamp-requires-clause-may : goal.stamp-requires-clause-may
 stamp-requires-clause-may c n small =
