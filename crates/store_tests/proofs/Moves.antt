@@ -164,3 +164,7 @@ affords_move v e h Commits = omega arith
 affords_move v e h Moves = omega arith
 affords_move v e h Cells = omega arith
 affords_move v e h Extra = omega arith
+
+-- of one more worker than b each wants w
+pub one_more : (a b w : ℕ) → a ≡ b + 1 → a * w ≡ b * w + w
+one_more a b w e = subst (λ (n : ℕ). n * w ≡ b * w + w) (sym e) (omega arith)

@@ -4,11 +4,14 @@
 mod banks;
 mod moved;
 mod purses;
+mod runs;
 mod spending;
 mod transfers;
+mod workers;
 
 pub use banks::bank;
 pub use moved::Moved;
 pub use purses::{Purses, Transfer};
 pub use spending::{Tally, spend};
 pub use transfers::{glances, transfer};
+pub use workers::{Worker, gather, work_all};

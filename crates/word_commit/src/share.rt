@@ -14,6 +14,7 @@ use std::alloc::Global;
 use std::marker::Brand;
 
 /// A seat and one that was shared of it, or the seat as it was.
+#[derive(Drop)]
 pub enum Shared<S> {
     Two(S, S),
     NoMemory(S),
