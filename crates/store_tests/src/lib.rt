@@ -6,12 +6,15 @@ mod moved;
 mod purses;
 mod runs;
 mod spending;
+#[cfg(test)]
+mod tests;
 mod transfers;
 mod workers;
 
 pub use banks::bank;
 pub use moved::Moved;
 pub use purses::{Purses, Transfer};
+pub use runs::{Finish, purse_run};
 pub use spending::{Tally, spend};
 pub use transfers::{glances, transfer};
 pub use workers::{Worker, gather, work_all};
