@@ -1,0 +1,4 @@
+pub mod Purses
+pub mod PurseLaws
+pub mod Transfers
+pub mod Workers

@@ -1,0 +1,16 @@
+pub mod Lists
+pub mod Totals
+pub mod Pages
+pub mod Keeping
+pub mod Sights
+pub mod Loads
+pub mod Takes
+pub mod Begins
+pub mod Writes
+pub mod Clocks
+pub mod Stamps
+pub mod Seating
+pub mod Shares
+pub mod Arranging
+pub mod Ends
+pub mod Effects

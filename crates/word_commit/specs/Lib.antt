@@ -1,0 +1,12 @@
+pub mod Meanings
+pub mod Histories
+pub mod Views
+pub mod Kept
+pub mod Sights
+pub mod Openings
+pub mod Seats
+pub mod Calls
+pub mod Conditions
+pub mod Closings
+pub mod ClosedWords
+pub mod Shows
