@@ -1,5 +1,7 @@
 pub mod AtHand
 pub mod Laws
+pub mod NewPieces
 pub mod Endings
 pub mod Opening
 pub mod Unifying
+pub mod Testing

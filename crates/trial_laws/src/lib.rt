@@ -2,9 +2,11 @@
 #![tactic(auto)]
 
 ghost use Rattle.trial_laws.specs.Laws.{LawOfStart, LawOfTry, LawOfLeaving, LawOfJump, LawOfFirst};
-ghost use Rattle.trial_laws.specs.Laws.{LawOfVariable, LawOfReadOnly, LawOfConstant, LawOfPair};
+ghost use Rattle.trial_laws.specs.Laws.{LawOfVariable, LawOfReadOnly, LawOfConstant};
+ghost use Rattle.trial_laws.specs.NewPieces.{LawOfPair, LawOfTuple, LawOfOperation, LawOfWide, LawOfSpawn};
 ghost use Rattle.trial_laws.specs.Opening.{LawOfPairOpened, LawOfNoPair, LawOfTupleOpened, LawOfNoTuple};
 ghost use Rattle.trial_laws.specs.Unifying.{LawOfUnify, LawOfClash, LawOfPause};
+ghost use Rattle.trial_laws.specs.Testing.{LawOfHolds, LawOfFails, LawOfWaits, LawOfOtherwise, LawOfNotOtherwise};
 ghost use Rattle.trial_laws.specs.Endings.{LawOfCommit, LawOfFail, LawOfWait};
 
 /// A trial and a try begin, and a try is left.
@@ -20,7 +22,15 @@ pub fn puts()
     ensures variable { LawOfVariable }
     ensures read_only { LawOfReadOnly }
     ensures constant { LawOfConstant }
+{}
+
+/// A new piece is put after the others: for a slot, or as a child.
+pub fn new_pieces()
     ensures pair { LawOfPair }
+    ensures tuple { LawOfTuple }
+    ensures operation { LawOfOperation }
+    ensures wide { LawOfWide }
+    ensures spawn { LawOfSpawn }
 {}
 
 /// A variable takes a term at its first occurrence.
@@ -41,6 +51,15 @@ pub fn unifies()
     ensures done { LawOfUnify }
     ensures clash { LawOfClash }
     ensures pause { LawOfPause }
+{}
+
+/// A test holds, fails or waits.
+pub fn tests()
+    ensures holds { LawOfHolds }
+    ensures fails { LawOfFails }
+    ensures waits { LawOfWaits }
+    ensures otherwise { LawOfOtherwise }
+    ensures not_otherwise { LawOfNotOtherwise }
 {}
 
 /// A trial ends.
