@@ -16,3 +16,4 @@ pub mod OpenLaws
 pub mod UnifyEnds
 pub mod UnifyLaws
 pub mod TestLaws
+pub mod BuiltInLaws

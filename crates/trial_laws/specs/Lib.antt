@@ -5,3 +5,4 @@ pub mod Endings
 pub mod Opening
 pub mod Unifying
 pub mod Testing
+pub mod BuiltIns

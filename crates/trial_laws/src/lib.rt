@@ -7,6 +7,7 @@ ghost use Rattle.trial_laws.specs.NewPieces.{LawOfPair, LawOfTuple, LawOfOperati
 ghost use Rattle.trial_laws.specs.Opening.{LawOfPairOpened, LawOfNoPair, LawOfTupleOpened, LawOfNoTuple};
 ghost use Rattle.trial_laws.specs.Unifying.{LawOfUnify, LawOfClash, LawOfPause};
 ghost use Rattle.trial_laws.specs.Testing.{LawOfHolds, LawOfFails, LawOfWaits, LawOfOtherwise, LawOfNotOtherwise};
+ghost use Rattle.trial_laws.specs.BuiltIns.{LawOfTrue, LawOfEquals, LawOfAssign, LawOfBadAssign, LawOfUnreadyAssign};
 ghost use Rattle.trial_laws.specs.Endings.{LawOfCommit, LawOfFail, LawOfWait};
 
 /// A trial and a try begin, and a try is left.
@@ -67,4 +68,13 @@ pub fn endings()
     ensures commit { LawOfCommit }
     ensures fail { LawOfFail }
     ensures wait { LawOfWait }
+{}
+
+/// The built-in processes are decided by code of their own.
+pub fn built_ins()
+    ensures truth { LawOfTrue }
+    ensures equals { LawOfEquals }
+    ensures assign { LawOfAssign }
+    ensures bad { LawOfBadAssign }
+    ensures unready { LawOfUnreadyAssign }
 {}
