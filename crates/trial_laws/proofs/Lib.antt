@@ -17,3 +17,6 @@ pub mod UnifyEnds
 pub mod UnifyLaws
 pub mod TestLaws
 pub mod BuiltInLaws
+pub mod LedPieces
+pub mod LedLaws
+pub mod LedEnds

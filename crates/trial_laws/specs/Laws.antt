@@ -1,5 +1,5 @@
 -- The laws of the instructions: what each leaves at hand stands for the try that it leaves by the meaning of code.
-use Rattle.std.specs.Prelude.{◌≡◌, ◌⊎◌, ◌↔◌, ℕ, zero, suc, ◌<◌, Bool, true, false, List, [], ◌∷◌, ◌++◌, Some, None}
+use Rattle.std.specs.Prelude.{◌≡◌, ◌⊎◌, ◌↔◌, ℕ, zero, suc, ◌<◌, Bool, true, false, List, [], ◌∷◌, length, ◌++◌, Some, None}
 use Rattle.std.specs.Prelude.{if◌then◌else◌, nat_eq, slice_get}
 use Rattle.fcp_model.specs.Places.{Variable, own}
 use Rattle.fcp_model.specs.Terms.{Term, Bindings}
@@ -12,7 +12,7 @@ use Rattle.word_states.specs.Pieces.{StartsAt, place_words, process_words, numbe
 use Rattle.machine_code.specs.Slots.{arguments}
 use Rattle.machine_code.specs.Instructions.{Op, Try, GetFirst, PutVar, PutWord, Jump}
 use Rattle.machine_code.specs.Machine.{Trying, untried}
-use Rattle.trial_laws.specs.AtHand.{AtHand, term_word, ArePieces, AreCalled, IsStore, StandsForTry, Leads}
+use Rattle.trial_laws.specs.AtHand.{AtHand, term_word, end_of, ArePieces, AreCalled, IsStore, StandsForTry, Leads}
 
 -- a slot takes a word, which is an operator's or not
 abbrev pub holding : AtHand → ℕ → ℕ → Bool → AtHand
@@ -30,6 +30,9 @@ pub record IsFilled (s x : ℕ) (ps ps' : List (List ℕ)) : Type 0 where
   pub was : StartsAt 4000000000 ps s (0 ∷ 0 ∷ [])
   pub now : StartsAt 4000000000 ps' s (0 ∷ x ∷ [])
   pub others : (a : ℕ) (p : List ℕ) → (a ≡ s → ⊥) → StartsAt 4000000000 ps a p → StartsAt 4000000000 ps' a p
+  pub back : (a : ℕ) (p : List ℕ) → (a ≡ s → ⊥) → StartsAt 4000000000 ps' a p → StartsAt 4000000000 ps a p
+  pub no_empty : (a : ℕ) (p : List ℕ) → StartsAt 4000000000 ps' a p → 0 < length p
+  pub same_end : end_of 4000000000 ps' ≡ end_of 4000000000 ps
   pub same_places : place_words 4000000000 ps' ≡ place_words 4000000000 ps
   pub same_processes : process_words 4000000000 ps' ≡ process_words 4000000000 ps
 

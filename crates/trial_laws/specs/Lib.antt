@@ -6,3 +6,4 @@ pub mod Opening
 pub mod Unifying
 pub mod Testing
 pub mod BuiltIns
+pub mod Leading

@@ -8,6 +8,8 @@ ghost use Rattle.trial_laws.specs.Opening.{LawOfPairOpened, LawOfNoPair, LawOfTu
 ghost use Rattle.trial_laws.specs.Unifying.{LawOfUnify, LawOfClash, LawOfPause};
 ghost use Rattle.trial_laws.specs.Testing.{LawOfHolds, LawOfFails, LawOfWaits, LawOfOtherwise, LawOfNotOtherwise};
 ghost use Rattle.trial_laws.specs.BuiltIns.{LawOfTrue, LawOfEquals, LawOfAssign, LawOfBadAssign, LawOfUnreadyAssign};
+ghost use Rattle.trial_laws.specs.Leading.{LedByMore, LedSlot, LedVariable, LedPair, LedTuple, LedOperation, LedWide, LedChild};
+ghost use Rattle.trial_laws.specs.Leading.{LedFirst, LedTry, LedUnification, LedCommit, TermsStand};
 ghost use Rattle.trial_laws.specs.Endings.{LawOfCommit, LawOfFail, LawOfWait};
 
 /// A trial and a try begin, and a try is left.
@@ -77,4 +79,21 @@ pub fn built_ins()
     ensures assign { LawOfAssign }
     ensures bad { LawOfBadAssign }
     ensures unready { LawOfUnreadyAssign }
+{}
+
+/// What is at hand leads on, whatever the store is.
+pub fn leads()
+    ensures more { LedByMore }
+    ensures slot { LedSlot }
+    ensures variable { LedVariable }
+    ensures pair { LedPair }
+    ensures tuple { LedTuple }
+    ensures operation { LedOperation }
+    ensures wide { LedWide }
+    ensures child { LedChild }
+    ensures first_ { LedFirst }
+    ensures begins { LedTry }
+    ensures unification { LedUnification }
+    ensures commit { LedCommit }
+    ensures terms { TermsStand }
 {}
