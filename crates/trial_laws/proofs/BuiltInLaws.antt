@@ -1,5 +1,6 @@
 -- The laws of the built-in processes.
-use Rattle.std.proofs.Common.{◌≡◌, ℕ, zero, suc, ◌+◌, ℤ, true, false, List, [], ◌∷◌, ◌++◌, refl, sym, ap, ◌∙◌, subst, arith, append-nil, Option, Some, None}
+use Rattle.std.proofs.Common.{◌≡◌, ℕ, zero, suc, ◌+◌, ℤ, true, false, List, [], ◌∷◌, ◌++◌, refl, sym, ap, ◌∙◌, subst, arith, append-nil}
+use Rattle.std.proofs.Common.{Option, Some, None}
 use Rattle.std.specs.Prelude.{option_map}
 use Rattle.std.proofs.lemmas.Option.{same_Some}
 use Rattle.fcp_model.specs.Places.{Variable}
@@ -56,7 +57,8 @@ equals_so m s t u d g = go g.0 g.1
     committed (suc n) k bs rs f e = (commits 0 bs ([] ++ rs), (k, ap (option_map (built_in [])) f), sym (same_Some _ _ e))
 
     failed : (n k : ℕ) (rs : List Variable) → unify k s [] [] ((t, u) ∷ []) ≡ Some (clash rs)
-        → follow n s unify_code (t ∷ u ∷ []) 3 (record (begun 3 (t ∷ u ∷ [])) { earlier = [] ++ rs }) ≡ Some d → IsDecided m s (unifies t u) d
+        → follow n s unify_code (t ∷ u ∷ []) 3 (record (begun 3 (t ∷ u ∷ [])) { earlier = [] ++ rs }) ≡ Some d
+        → IsDecided m s (unifies t u) d
     failed zero k rs f e = cc
     failed (suc n) k rs f e = (decides_fail ([] ++ rs), (k, ap (option_map (built_in [])) f), sym (same_Some _ _ e))
 

@@ -108,7 +108,8 @@ module _ (read : WordList) (r : AtHand) (h : IsLedOn read r) where
           (λ k. ⊎_elim (λ i. subst P (sym i) nine_leads) (λ i. h.own a x e i) k)
           (kind_at q.2 (h.pieces.each q.0 q.2 q.3) q.1 x q.6)
 
-      go : (o : Option ℕ) → word_at read a ≡ o → (p : Option ℕ) → word_at (rows 4000000000 r.pieces) a ≡ p → P (unwrap_or (first_some o p) 6)
+      go : (o : Option ℕ) → word_at read a ≡ o → (p : Option ℕ) → word_at (rows 4000000000 r.pieces) a ≡ p
+          → P (unwrap_or (first_some o p) 6)
       go (Some x) e p f = inl (was_read a (word_among read a x e))
       go None e (Some x) f = own_one x f
       go None e None f = nil_leads read r.pieces
@@ -221,7 +222,8 @@ module _ (read : WordList) (r : AtHand) (h : IsLedOn read r) (terms : (a x : ℕ
     k.0,
     k.1,
     k.2,
-    subst (λ (p : List ℕ). StartsAt 4000000000 ps a p) (kept_tuple r.binds a k.0 k.1 k.2 k.4) (starts_on r.binds 4000000000 r.pieces a _ k.3),
+    subst (λ (p : List ℕ). StartsAt 4000000000 ps a p) (kept_tuple r.binds a k.0 k.1 k.2 k.4)
+        (starts_on r.binds 4000000000 r.pieces a _ k.3),
     k.4,
     k.5,
   )

@@ -40,9 +40,11 @@ pub led_pair : LedPair
 led_pair read r h i left right room =
     let x = slot_leads read r h left in
     let y = slot_leads read r h right in
-    let here : decoded (encoded (Cons (next_piece r))) ≡ Some (Cons (next_piece r)) = decoded_encoded (Cons (next_piece r)) (omega (arith, room)) in
+    let here : decoded (encoded (Cons (next_piece r)))
+    ≡ Some (Cons (next_piece r)) = decoded_encoded (Cons (next_piece r)) (omega (arith, room)) in
     led_slot read (with_piece r (term_word r left ∷ term_word r right ∷ []))
-    (with_led_piece read r h (term_word r left ∷ term_word r right ∷ []) (pair_form (term_word r left) (term_word r right) x.1 y.1) room words)
+    (with_led_piece read r h (term_word r left ∷ term_word r right ∷ [])
+    (pair_form (term_word r left) (term_word r right) x.1 y.1) room words)
     i (encoded (Cons (next_piece r))) false
     (new_leads read r (term_word r left ∷ term_word r right ∷ []) (encoded (Cons (next_piece r))) (Cons (next_piece r)) here
     (term_word r left, term_word r right, starts_last 4000000000 r.pieces (term_word r left ∷ term_word r right ∷ []), x.1.0, x.1.1))
@@ -164,15 +166,18 @@ led_child read r h p i n l few room = go (nat_eq p TRUE_PROCEDURE) (nat_eq p UNI
         (words_final read r h i n) m (words_lead read r h i n)
 
     go : (a b c : Bool)
-        → HasRoom r (length (cond a true_piece (cond b (unify_piece r i n) (cond c (assign_piece r i n) (process_piece p (term_words r i n))))))
-        → IsLedOn read (with_piece r (cond a true_piece (cond b (unify_piece r i n) (cond c (assign_piece r i n) (process_piece p (term_words r i n))))))
+        → HasRoom r (length
+        (cond a true_piece (cond b (unify_piece r i n) (cond c (assign_piece r i n) (process_piece p (term_words r i n))))))
+        → IsLedOn read (with_piece r
+        (cond a true_piece (cond b (unify_piece r i n) (cond c (assign_piece r i n) (process_piece p (term_words r i n))))))
     go true b c m = truth m
     go false true c m = equals n m
     go false false true m = assigns n m
     go false false false m = user m
 
 -- the own place after s takes a word
-module _ (read : WordList) (r : AtHand) (h : IsLedOn read r) (i s : ℕ) (ps : List (List ℕ)) (f : IsFilled s (term_word r i) r.pieces ps) where
+module _ (read : WordList) (r : AtHand) (h : IsLedOn read r) (i s : ℕ) (ps : List (List ℕ)) (f : IsFilled s
+    (term_word r i) r.pieces ps) where
   abbrev x : ℕ
   x = term_word r i
 

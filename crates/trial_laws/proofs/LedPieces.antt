@@ -101,7 +101,8 @@ pub nil_term : IsTermWord 6
 nil_term = term_of_cell 6 Nil nil_is refl (λ n e. let h : Nil ≡ Raw n = e in cc)
 
 -- a slot as a term
-pub slot_leads : (read : WordList) (r : AtHand) → IsLedOn read r → (i : ℕ) → LeadsOn read r.pieces (term_word r i) × IsTermWord (term_word r i)
+pub slot_leads : (read : WordList) (r : AtHand) → IsLedOn read r → (i : ℕ)
+    → LeadsOn read r.pieces (term_word r i) × IsTermWord (term_word r i)
 slot_leads read r h i = go (r.operators i)
   where
     go : (b : Bool) → LeadsOn read r.pieces (cond b 6 (r.slots i)) × IsTermWord (cond b 6 (r.slots i))
@@ -165,7 +166,8 @@ words_final read r h i zero = tt
 words_final read r h i (suc n) = ((slot_leads read r h i).1.0, words_final read r h (suc i) n)
 
 -- the words of slots lead on
-pub words_lead : (read : WordList) (r : AtHand) → IsLedOn read r → (i n d x : ℕ) → slice_get (term_words r i n) d ≡ Some x → LeadsOn read r.pieces x
+pub words_lead : (read : WordList) (r : AtHand) → IsLedOn read r → (i n d x : ℕ) → slice_get (term_words r i n) d ≡ Some x
+    → LeadsOn read r.pieces x
 words_lead read r h i zero d x e = let k : None ≡ Some x = e in cc
 words_lead read r h i (suc n) zero x e = subst (LeadsOn read r.pieces) (same_Some _ _ e) (slot_leads read r h i).0
 words_lead read r h i (suc n) (suc d) x e = words_lead read r h (suc i) n d x e

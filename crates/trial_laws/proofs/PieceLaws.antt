@@ -155,10 +155,13 @@ operation_leads w vs bound ops args at r t store formed s i from n o e room =
                   (omega arith),
               is,
             ),
-            word_here w vs bound r t store s (encoded (Raw (66 + operator_code o))) (r.slots from ∷ r.slots (suc from) ∷ []) f 1 _ refl _ refl,
-            content_on w vs bound r t store s (encoded (Raw (66 + operator_code o))) (r.slots from ∷ r.slots (suc from) ∷ []) f (r.slots from)
+            word_here w vs bound r t store s (encoded (Raw (66 + operator_code o))) (r.slots from ∷ r.slots
+                (suc from) ∷ []) f 1 _ refl _ refl,
+            content_on w vs bound r t store s (encoded (Raw (66 + operator_code o))) (r.slots from ∷ r.slots (suc from) ∷ []) f
+                (r.slots from)
                 (t.slots from) (s.slots from),
-            word_here w vs bound r t store s (encoded (Raw (66 + operator_code o))) (r.slots from ∷ r.slots (suc from) ∷ []) f 2 _ refl _ refl,
+            word_here w vs bound r t store s (encoded (Raw (66 + operator_code o))) (r.slots from ∷ r.slots
+                (suc from) ∷ []) f 2 _ refl _ refl,
             content_on w vs bound r t store s (encoded (Raw (66 + operator_code o))) (r.slots from ∷ r.slots (suc from) ∷ []) f
                 (r.slots (suc from)) (t.slots (suc from)) (s.slots (suc from)),
           );

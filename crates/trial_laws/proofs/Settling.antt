@@ -1,12 +1,14 @@
 -- Pieces in which the own places take what they are bound to, and the bindings of the store's places.
-use Rattle.std.proofs.Common.{◌≡◌, ◌⊎◌, ℕ, zero, suc, ◌+◌, ◌<◌, Bool, true, false, cond, List, [], ◌∷◌, length, refl, sym, ap, ◌∙◌, subst, inl, inr}
+use Rattle.std.proofs.Common.{◌≡◌, ◌⊎◌, ℕ, zero, suc, ◌+◌, ◌<◌, Bool, true, false, cond, List, [], ◌∷◌, length, refl, sym, ap, ◌∙◌, subst}
+use Rattle.std.proofs.Common.{inl, inr}
 use Rattle.std.proofs.Common.{arith, true≢false, Option, Some, None}
 use Rattle.std.specs.Prelude.{slice_get, nat_eq, nat_lt, unwrap_or}
 use Rattle.std.proofs.lemmas.Bool.{eqb-true, ltb-true, lt-ltb}
 use Rattle.heap_words.specs.Cells.{decoded, is_final_word, is_final_in}
 use Rattle.heap_words.specs.Trails.{WordList, word_at}
 use Rattle.heap_words.specs.declared.cell.Cell.TheVariants.{Unbound, Raw}
-use Rattle.word_states.specs.Pieces.{StartsAt, is_place, is_process, place_words, process_words, IsPiece, a_place, a_pair, a_tuple, a_wide, a_process}
+use Rattle.word_states.specs.Pieces.{StartsAt, is_place, is_process, place_words, process_words, IsPiece, a_place, a_pair, a_tuple, a_wide}
+use Rattle.word_states.specs.Pieces.{a_process}
 use Rattle.word_states.proofs.Pieces.{zero_is, not_zero, raw_final}
 use Rattle.trial_laws.specs.Endings.{settled_piece, settled, of_store}
 
@@ -142,7 +144,8 @@ kept_tuple bs s r n xs e = kept_other bs s r xs (not_zero r (raw_final r n e))
 pub settled_is : (bs : WordList) (s : ℕ) (p : List ℕ) → ((x : ℕ) → word_at bs (suc s) ≡ Some x → is_final_word x ≡ true) → IsPiece p
     → IsPiece (settled_piece bs s p)
 settled_is bs s p f (a_place x e h) =
-    subst (λ (z : List ℕ). IsPiece (settled_piece bs s z)) (sym e) (a_place (unwrap_or (word_at bs (suc s)) x) refl (go (word_at bs (suc s)) refl))
+    subst (λ (z : List ℕ). IsPiece (settled_piece bs s z)) (sym e) (a_place (unwrap_or (word_at bs (suc s)) x) refl
+    (go (word_at bs (suc s)) refl))
   where
     go : (o : Option ℕ) → word_at bs (suc s) ≡ o
         → (unwrap_or (word_at bs (suc s)) x ≡ 0) ⊎ (is_final_word (unwrap_or (word_at bs (suc s)) x) ≡ true)

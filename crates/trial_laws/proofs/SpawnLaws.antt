@@ -1,5 +1,6 @@
 -- The law of the instruction that puts a new child.
-use Rattle.std.proofs.Common.{◌≡◌, ℕ, zero, suc, ◌+◌, ◌<◌, ◌≤◌, Bool, true, false, cond, List, [], ◌∷◌, ◌++◌, length, map, refl, sym, ◌∙◌, ap, subst}
+use Rattle.std.proofs.Common.{◌≡◌, ℕ, zero, suc, ◌+◌, ◌<◌, ◌≤◌, Bool, true, false, cond, List, [], ◌∷◌, ◌++◌, length, map, refl, sym, ◌∙◌}
+use Rattle.std.proofs.Common.{ap, subst}
 use Rattle.std.proofs.Common.{arith, true≢false, Some}
 use Rattle.std.specs.Prelude.{slice_get, nat_eq}
 use Rattle.std.proofs.lemmas.Bool.{eq-eqb}
@@ -106,8 +107,11 @@ module _ (w : Words) (vs : Addresses) (bound : Bindings) (r : AtHand) (t : Tryin
 
   true_child : WithChild true_piece true'
   true_child =
-      with_child w vs bound r t store s TRUE_PROCEDURE [] true'
-      (procedure_here w vs bound r t store s TRUE_PROCEDURE [] (omega arith), number_here w vs bound r t store s TRUE_PROCEDURE [] (omega arith))
+      with_child w vs bound r t store s TRUE_PROCEDURE [] true' (
+        procedure_here w vs bound r t store s TRUE_PROCEDURE [] (omega arith),
+        number_here w vs bound r t store s TRUE_PROCEDURE []
+            (omega arith),
+      )
 
   unify_child : (i n : ℕ) → WithChild (unify_piece r i n) (pair_goal (slots_from t.slots i n))
   unify_child i zero = true_child

@@ -27,7 +27,8 @@ called_more us [] bs (v ∷ vs) qs h k = absurd h
 called_more us (a ∷ as') bs [] qs h k = absurd h
 
 -- what the code gives after a test
-after_test : (bound : Bindings) (ops : List Op) (args : List (Term Variable)) (at at' : ℕ) (t t' : Trying) (o : Op) (x : Tested) (d : Meaning)
+after_test : (bound : Bindings) (ops : List Op) (args : List (Term Variable)) (at at' : ℕ) (t t' : Trying) (o : Op) (x : Tested)
+    (d : Meaning)
     → slice_get ops at ≡ Some o → TestGives bound t o x
     → ((n : ℕ) → tested (follow n bound ops args) at t x ≡ follow n bound ops args at' t') → Gives bound ops args at' t' d
     → Gives bound ops args at t d
@@ -79,7 +80,8 @@ holds_leads w vs bound ops args at r t store formed s o rs qs e is called = reco
 
 -- the try is left with its reads
 module _ (w : Words) (vs : Addresses) (bound : Bindings) (ops : List Op) (args : List (Term Variable)) (at : ℕ) (r : AtHand) (t : Trying)
-    (store : IsStore w vs bound) (formed : ArePieces r.pieces) (s : StandsForTry w vs bound r t) (o : Op) (is : slice_get ops at ≡ Some o) where
+    (store : IsStore w vs bound) (formed : ArePieces r.pieces) (s : StandsForTry w vs bound r t) (o : Op) (is : slice_get ops at
+    ≡ Some o) where
   leaves_after : (behind behind' : Bool) → behind ≡ behind' → (rs waits : List ℕ) (qs : List Variable)
       → AreCalled (with_variables r.pieces vs) rs qs → AreNoted r.waits rs waits → (x : Tested) → TestGives bound t o x
       → ((n : ℕ) → tested (follow n bound ops args) at t x ≡ follow n bound ops args t.next (after_leave t behind' qs))

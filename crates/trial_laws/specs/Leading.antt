@@ -96,4 +96,5 @@ LedCommit = Led (λ read r. ((a x : ℕ) → word_at r.binds a ≡ Some x → Is
 
 -- Where a store is stood for, all slots and bindings are words of terms or of operations: at any other word there is no such store.
 abbrev pub TermsStand : Type 0
-TermsStand = Always (λ w vs bound ops args at r t. ((i : ℕ) → IsTermWord (r.slots i)) × ((a x : ℕ) → word_at r.binds a ≡ Some x → IsTermWord x))
+TermsStand = Always (λ w vs bound ops args at r t. ((i : ℕ) → IsTermWord (r.slots i)) × ((a x : ℕ) → word_at r.binds a ≡ Some x
+    → IsTermWord x))

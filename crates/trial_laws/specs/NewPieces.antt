@@ -56,7 +56,8 @@ LawOfWide = Always (λ w vs bound ops args at r t. (i x h : ℕ) (z low : ℤ) �
     → decoded x ≡ Some (cell.Small low) → bits z ≡ h * 0x100000000000000 + low_bits low → IsLong z → h < 256 → HasRoom r 1
     → Leads w vs bound ops args at t (suc at) (holding (with_piece r (x ∷ [])) i (encoded (cell.Wide (next_piece r) h)) false))
 
--- the piece of a process: 9, the word of the status Ready; its name, which is 0 until the entry has its number; its procedure and its arguments
+-- the piece of a process: 9, the word of the status Ready; its name, which is 0 until the entry has its number; its procedure and its
+-- arguments
 abbrev pub process_piece : ℕ → List ℕ → List ℕ
 process_piece f xs = 9 ∷ 0 ∷ encoded (cell.Raw f) ∷ encoded (cell.Raw (length xs)) ∷ xs
 
