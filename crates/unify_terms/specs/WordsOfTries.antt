@@ -33,9 +33,12 @@ naming vs = record { is_place = λ a. is_some (name_at vs a); name = λ a. unwra
 -- The listed variables have words of their own: a place in the store, after its name, and a variable of the clause among the words
 -- of the try, where they stand in order.
 pub record AreNamed (m : Memory) (vs : Addresses) : Type 0 where
+  -- each variable has one address, and an address is one variable's
   pub once : (v u : Variable) (a b : ℕ) → Listed vs v a → Listed vs u b → (v ≡ u) ↔ (a ≡ b)
+  -- places, after their names
   pub store : (j : Place) (a : ℕ) → Listed vs (made j) a
       → (a < 4000000000) × (j.number < 268435456) × (decoded (m (a - 1)) ≡ Some (Small (pos (name_code j.entry j.number))))
+  -- variables of the clause, and that they stand in order
   pub own_words : (k a : ℕ) → Listed vs (own k) a → (4000000000 ≤ a) × (a < 0x100000000)
   pub rise : (k l a b : ℕ) → Listed vs (own k) a → Listed vs (own l) b → k < l → a < b
 
@@ -67,8 +70,11 @@ ATryIsNamed = (m : Memory) (w : Words) (vs : Addresses) (bound : Bindings) (ps :
 -- Where variables are named so, their names are as unification asks, and what words denote or say they do for unification, in each
 -- memory that has them.
 pub record UnificationSees (m : Memory) (w : Words) (vs : Addresses) : Type 0 where
+  -- names and ages of places
   pub names : Names (naming vs) m
+  -- terms
   pub denotes : (x : ℕ) (t : Term Variable) → Denotes w vs x t → unified.Denotes (naming vs) m t x
+  -- bindings
   pub stands : (binds : WordList) (bound : Bindings) → SayBound w vs binds bound → Stands (naming vs) m binds bound
 
 -- so it is of each memory that has the words
@@ -77,7 +83,9 @@ AllIsSeen = (m : Memory) (w : Words) (vs : Addresses) → AreNamed m vs → HasW
 
 -- What words stand for in the memory of some words, they denote or say by these words.
 pub record WordsSay (w : Words) (vs : Addresses) : Type 0 where
+  -- terms
   pub denotes : (x : ℕ) (t : Term Variable) → unified.Denotes (naming vs) (memory_of w) t x → Denotes w vs x t
+  -- bindings
   pub says : (binds : WordList) (bound : Bindings) → Stands (naming vs) (memory_of w) binds bound → SayBound w vs binds bound
 
 -- so it is of all words whose variables are named

@@ -34,7 +34,7 @@ module _ (ws : List ℕ) (heap : IsHeap ws) where
     led_old : (x : ℕ) → IsLed reads x → IsOld (inside_at ws) x
     led_old x (was_read a h) = heap_old a x (has a x h)
     led_old x (of_known f) = record {
-      refers = λ b c d r. known_low b ((f c d).1 b r);
+      refers = λ b c d r. known_low b ((f c d).2 b r);
       refers_by = λ t y n b c d i j k r. let bad : None ≡ Some t = sym (f c d).0 ∙ i in cc;
     }
 

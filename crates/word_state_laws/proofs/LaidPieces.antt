@@ -80,7 +80,7 @@ final_moved f x small h = go (decoded x) refl h
     go None e i = ap (λ (o : Option Cell). is_final_word (moved_in f x o)) e ∙ h
     go (Some c) e i = ap is_final_in (becomes_moved f x c small e) ∙ moved_final f c ∙ i
 
-get_final : (xs : List ℕ) (d x : ℕ) → AreFinal xs → slice_get xs d ≡ Some x → is_final_word x ≡ true
+pub get_final : (xs : List ℕ) (d x : ℕ) → AreFinal xs → slice_get xs d ≡ Some x → is_final_word x ≡ true
 get_final [] d x h e = let i : None ≡ Some x = e in cc
 get_final (y ∷ ys) zero x h e = ap is_final_word (sym (same_Some y x e)) ∙ h.0
 get_final (y ∷ ys) (suc d) x h e = get_final ys d x h.1 e

@@ -129,8 +129,8 @@ module _ {m : Program} {book : Book} {s : State} {p : ℕ} {x : Process} {k : �
         t.0,
         g.3 ∙ ap (settle (suc s.entries)) l.4,
         g.4 ∙ ap f l.7,
-        subst (Located 1 1 4000000000 ps l.0 l.1 l.2) t.1 l.5,
-        subst (λ (c : ℕ). Listed (numbered 1 (place_words 4000000000 ps)) (own l.0) c) {y = suc l.2} l.7
+        subst (Located 1 1 4000000000 ps l.0 l.1 l.2) {y = 0 ∷ t.0 ∷ []} t.1 l.5,
+        subst (λ (c : ℕ). Listed (numbered 1 (place_words 4000000000 ps)) (own l.0) c) l.7
             (subst (λ (u : Variable). Listed (numbered 1 (place_words 4000000000 ps)) u g.1) l.4 g.2),
       )
 

@@ -3,6 +3,7 @@ pub mod LaidPieces
 pub mod NewNames
 pub mod Settling
 pub mod Hanging
+pub mod Appended
 pub mod Committing
 pub mod Waking
 pub mod LaidWords
@@ -14,3 +15,4 @@ pub mod HangLaying
 pub mod Going
 pub mod Forming
 pub mod TriedMoves
+pub mod Alike

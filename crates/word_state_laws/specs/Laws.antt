@@ -14,12 +14,15 @@ use Rattle.word_states.specs.Layouts.{CommitLaid, HangLaid}
 use Rattle.word_states.specs.Planning.{commit_writes, IsPlanned, hang_writes, IsHangPlanned}
 use Rattle.word_states.specs.Going.{Goes}
 
--- The heap stands for a state of an open run, in which the process x at p is Ready, and the next entry has a number that fits.
+-- The process x at p may move: in the state for which the heap stands it is Ready.
 pub record MayMove (book : Book) (ws : List ℕ) (s : State) (p : ℕ) (x : Process) : Type 0 where
+  -- the words are a heap, which stands for the state
   pub heap : IsHeap ws
   pub stands : StandsFor book (inside_at ws) s
+  -- the process is there, and Ready
   pub process : ProcessAt book s p x
   pub is_ready : x.status ≡ ready
+  -- the run is open, and the number of the next entry fits into names
   pub running : is_running s.mode ≡ true
   pub few : suc s.entries < 134217728
 

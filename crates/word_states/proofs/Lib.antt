@@ -1,3 +1,4 @@
 pub mod Lists
 pub mod Persisting
+pub mod OneTerm
 pub mod Pieces

@@ -10,7 +10,9 @@ use Rattle.word_states.specs.Pieces.{rows, StartsAt, IsPiece, RefersOwn}
 
 -- a word of the store refers to words of the store alone
 pub record IsOld (w : Words) (x : ℕ) : Type 0 where
+  -- by itself
   pub refers : (b : ℕ) (c : Cell) → decoded x ≡ Some c → Refers c b → b < 4000000000
+  -- and by a number that stands in the words
   pub refers_by : (t y n b : ℕ) (c : Cell) → decoded x ≡ Some c → teller c ≡ Some t → w t ≡ Some y → decoded y ≡ Some (Raw n)
       → RefersBy n c b → b < 4000000000
 
@@ -20,6 +22,9 @@ IsRooted w ps x = IsOld w x ⊎ ((c : Cell) × (decoded x ≡ Some c) × RefersO
 
 -- The pieces have their forms, and bindings and final words of pieces are rooted.
 pub record AreFormed (w : Words) (binds : WordList) (ps : List (List ℕ)) : Type 0 where
+  -- each piece has one of the forms
   pub each : (a : ℕ) (p : List ℕ) → StartsAt 4000000000 ps a p → IsPiece p
+  -- each final word of the pieces is rooted
   pub rooted : (a x : ℕ) → word_at (rows 4000000000 ps) a ≡ Some x → is_final_word x ≡ true → IsRooted w ps x
+  -- and so is each word to which a place is bound
   pub bound_rooted : (a x : ℕ) → word_at binds a ≡ Some x → IsRooted w ps x

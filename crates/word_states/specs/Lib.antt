@@ -10,5 +10,6 @@ pub mod Trials
 pub mod Waking
 pub mod Layouts
 pub mod Planning
+pub mod Writing
 pub mod Effects
 pub mod Going

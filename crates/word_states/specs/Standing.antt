@@ -61,7 +61,9 @@ StatusSays limit x (waiting ps) = (n : ℕ) × (decoded x ≡ Some (cell.Status 
 
 -- the words from p on are those of a process: its status, its name, its goal
 pub record ProcessSays (w : Words) (vs : Addresses) (limit p : ℕ) (q : Process) : Type 0 where
+  -- its status stands at its address
   pub status : (x : ℕ) × (w p ≡ Some x) × StatusSays limit x q.status
+  -- then its name, and its goal
   pub name : At w (p + 1) (Small (pos (name_code q.name.entry q.name.number)))
   pub goal : GoalSays w vs p q.goal
 
@@ -72,7 +74,9 @@ StandsAt _ _ p x = ⊥
 
 -- where the places and the processes of a state have their words, in the state's order
 pub record Book : Type 0 where
+  -- its places
   pub places : Addresses
+  -- its processes
   pub processes : List ℕ
 
 -- the process of the state has its words at the address
