@@ -4,7 +4,7 @@ use Rattle.std.proofs.Common.{⊎_elim, arith, Option, Some, None}
 use Rattle.std.specs.Prelude.{slice_get, unwrap_or}
 use Rattle.std.proofs.lemmas.Option.{same_Some}
 use Rattle.heap_words.specs.Cells.{decoded, encoded, is_final_word, is_final_in}
-use Rattle.heap_words.specs.Refers.{Refers}
+use Rattle.heap_words.specs.Refers.{Refers, HasPart}
 use Rattle.heap_words.specs.Trails.{WordList, Memory, word_at}
 use Rattle.heap_words.specs.WordsLaws.{tells_all}
 use Rattle.heap_words.specs.declared.cell.Cell.{Cell}
@@ -122,12 +122,15 @@ module _ (read : WordList) (r : AtHand) (h : IsLedOn read r) where
       is = decoded_encoded (RoRef a) (encoded_decoded w (Ref a) e).0
 
       led : IsLed read w → IsLed read (encoded (RoRef a))
-      led l = of_known (λ c f. let same : RoRef a ≡ c = same_Some _ _ (sym is ∙ f) in
-          (subst tells_all same refl, (λ b g. known l b (subst (λ (z : Cell). Refers z b) (sym same) g))))
+      led l = of_known (λ c f. let same : RoRef a ≡ c = same_Some _ _ (sym is ∙ f) in (
+        subst tells_all same refl,
+        (λ b g. subst (λ (z : Cell). HasPart z b) (sym same) g),
+        (λ b g. known l b (subst (λ (z : Cell). Refers z b) (sym same) g)),
+      ))
         where
           known : IsLed read w → (b : ℕ) → Refers (RoRef a) b → IsKnown read b
           known (was_read c m) b g = reached c w (Ref a) m e g
-          known (of_known m) b g = (m (Ref a) e).1 b g
+          known (of_known m) b g = (m (Ref a) e).2 b g
 
       other : P w → P (encoded (RoRef a))
       other (inl l) = inl (led l)
@@ -140,12 +143,15 @@ module _ (read : WordList) (r : AtHand) (h : IsLedOn read r) where
       is = decoded_encoded (Ref a) (encoded_decoded w (RoRef a) e).0
 
       led : IsLed read w → IsLed read (encoded (Ref a))
-      led l = of_known (λ c f. let same : Ref a ≡ c = same_Some _ _ (sym is ∙ f) in
-          (subst tells_all same refl, (λ b g. known l b (subst (λ (z : Cell). Refers z b) (sym same) g))))
+      led l = of_known (λ c f. let same : Ref a ≡ c = same_Some _ _ (sym is ∙ f) in (
+        subst tells_all same refl,
+        (λ b g. subst (λ (z : Cell). HasPart z b) (sym same) g),
+        (λ b g. known l b (subst (λ (z : Cell). Refers z b) (sym same) g)),
+      ))
         where
           known : IsLed read w → (b : ℕ) → Refers (Ref a) b → IsKnown read b
           known (was_read c m) b g = reached c w (RoRef a) m e g
-          known (of_known m) b g = (m (RoRef a) e).1 b g
+          known (of_known m) b g = (m (RoRef a) e).2 b g
 
       other : P w → P (encoded (Ref a))
       other (inl l) = inl (led l)

@@ -7,7 +7,7 @@ use Rattle.std.proofs.lemmas.Option.{same_Some}
 use Rattle.fcp_model.specs.declared.term.ArithOp.{ArithOp}
 use Rattle.fcp_model.specs.declared.term.ArithOp.TheVariants.{Add, Sub, Mul, Div, Mod}
 use Rattle.heap_words.specs.Cells.{decoded, is_final_word, is_final_in}
-use Rattle.heap_words.specs.Refers.{Refers, teller, parts}
+use Rattle.heap_words.specs.Refers.{Refers, HasPart, teller, parts}
 use Rattle.heap_words.specs.Trails.{WordList, word_at}
 use Rattle.heap_words.specs.declared.cell.Cell.{Cell}
 use Rattle.heap_words.specs.declared.cell.Cell.TheVariants.{Unbound, Ref, RoRef, Small, Wide, Str, Nil, Cons, Tuple, Status, Raw, Top}
@@ -50,7 +50,7 @@ module _ (read read' : WordList) (more : (z : ℕ × ℕ) → Among read z → A
 
   led_more : (x : ℕ) → IsLed read x → IsLed read' x
   led_more x (was_read a h) = was_read a (more _ h)
-  led_more x (of_known h) = of_known (λ c e. let k = h c e in (k.0, (λ b f. known_more b (k.1 b f))))
+  led_more x (of_known h) = of_known (λ c e. let k = h c e in (k.0, k.1, (λ b f. known_more b (k.2 b f))))
 
   pub read_more : (ps : List (List ℕ)) (x : ℕ) → LeadsOn read ps x → LeadsOn read' ps x
   read_more ps x (inl h) = inl (led_more x h)
@@ -84,12 +84,30 @@ led_slot read r h i x o leads term = record {
     of_slot j true = term
     of_slot j false = h.terms j
 
+-- a part is referred to
+part_refers : (c : Cell) (b : ℕ) → HasPart c b → Refers c b
+part_refers (Ref a) b h = absurd h
+part_refers (RoRef a) b h = absurd h
+part_refers (Unbound a) b h = h
+part_refers (Small z) b h = h
+part_refers (Wide a k) b h = h
+part_refers (Str s) b h = h
+part_refers Nil b h = h
+part_refers (Cons a) b h = h
+part_refers (Tuple a) b h = h
+part_refers (Status d) b h = h
+part_refers (Raw n) b h = h
+part_refers (Top a) b h = h
+
 -- a word that refers to nothing
 pub leads_alone : (read : WordList) (ps : List (List ℕ)) (x : ℕ) (c : Cell) → decoded x ≡ Some c → teller c ≡ None
     → ((b : ℕ) → Refers c b → ⊥) → LeadsOn read ps x
 leads_alone read ps x c e t none =
-    inl (of_known (λ d f. let same : c ≡ d = same_Some c d (sym e ∙ f) in
-    (subst (λ (z : Cell). teller z ≡ None) same t, (λ b g. absurd (none b (subst (λ (z : Cell). Refers z b) (sym same) g))))))
+    inl (of_known (λ d f. let same : c ≡ d = same_Some c d (sym e ∙ f) in (
+      subst (λ (z : Cell). teller z ≡ None) same t,
+      (λ b g. none b (part_refers c b (subst (λ (z : Cell). HasPart z b) (sym same) g))),
+      (λ b g. absurd (none b (subst (λ (z : Cell). Refers z b) (sym same) g))),
+    )))
 
 pub nil_leads : (read : WordList) (ps : List (List ℕ)) → LeadsOn read ps 6
 nil_leads read ps = leads_alone read ps 6 Nil nil_is refl (λ b h. absurd h)
