@@ -37,13 +37,17 @@ pub record IsClosed (before : WordList) (m : Memory) (P Q : ℕ → Type 0) : Ty
 abbrev pub BindsIn : (P Q : ℕ → Type 0) → WordList → Type 0
 BindsIn P Q bs = (a x : ℕ) → word_at bs a ≡ Some x → Q a × P x
 
--- the reads of a unification, and its bindings where it is done
-abbrev pub EndsIn : (P Q : ℕ → Type 0) → Ended → Type 0
-EndsIn P Q (done bs rs) = BindsIn P Q bs × Each Q rs
-EndsIn P Q (clash rs) = Each Q rs
-EndsIn P Q (stop rs) = Each Q rs
+-- the reads of a unification have a property R, and its bindings are such where it is done
+abbrev pub EndsWith : (P Q R : ℕ → Type 0) → Ended → Type 0
+EndsWith P Q R (done bs rs) = BindsIn P Q bs × Each R rs
+EndsWith P Q R (clash rs) = Each R rs
+EndsWith P Q R (stop rs) = Each R rs
 
-module _ (before : WordList) (m : Memory) (P Q : ℕ → Type 0) (closed : IsClosed before m P Q) where
+-- and the reads have that of places
+abbrev pub EndsIn : (P Q : ℕ → Type 0) → Ended → Type 0
+EndsIn P Q e = EndsWith P Q Q e
+
+module _ (before : WordList) (m : Memory) (P Q R : ℕ → Type 0) (closed : IsClosed before m P Q) (noted : (a : ℕ) → Q a → R a) where
   -- such bindings, of all places that were bound before, too
   abbrev Held : WordList → Type 0
   Held bs = BindsIn P Q bs × ((a : ℕ) → word_at bs a ≡ None → word_at before a ≡ None)
@@ -85,23 +89,23 @@ module _ (before : WordList) (m : Memory) (P Q : ℕ → Type 0) (closed : IsClo
   open_in (ReadOnly b) a e q = subst Q (let i : b ≡ a = cc in i) q
   open_in (Solid x) a e q = cc
 
-  each_with : {A : Type 0} (R : A → Type 0) (xs ys : List A) → Each R xs → Each R ys → Each R (xs ++ ys)
-  each_with R [] ys g h = h
-  each_with R (x ∷ xs) ys g h = (g.0, each_with R xs ys g.1 h)
+  each_with : {A : Type 0} (S : A → Type 0) (xs ys : List A) → Each S xs → Each S ys → Each S (xs ++ ys)
+  each_with S [] ys g h = h
+  each_with S (x ∷ xs) ys g h = (g.0, each_with S xs ys g.1 h)
 
-  occurs_in : (bs : WordList) (p : ℕ) (ws rs : List ℕ) (f : Found) → Held bs → Occurs bs m p ws rs f → Each P ws → Each Q rs
-      → Each Q (reads_found f)
+  occurs_in : (bs : WordList) (p : ℕ) (ws rs : List ℕ) (f : Found) → Held bs → Occurs bs m p ws rs f → Each P ws → Each R rs
+      → Each R (reads_found f)
   occurs_in bs p _ _ _ b (at_end rs) g h = h
-  occurs_in bs p _ _ _ b (here w ws rs l a v o t) g h = each_end Q rs a h (open_in l a o (values_in bs false w l b v g.0))
+  occurs_in bs p _ _ _ b (here w ws rs l a v o t) g h = each_end R rs a h (noted a (open_in l a o (values_in bs false w l b v g.0)))
   occurs_in bs p _ _ _ b (leaf w ws rs l a f v o t r) g h =
-      occurs_in bs p ws (rs ++ a ∷ []) f b r g.1 (each_end Q rs a h (open_in l a o (values_in bs false w l b v g.0)))
+      occurs_in bs p ws (rs ++ a ∷ []) f b r g.1 (each_end R rs a h (noted a (open_in l a o (values_in bs false w l b v g.0))))
   occurs_in bs p _ _ _ b (node w ws rs x f v r) g h =
       occurs_in bs p _ rs f b r (each_with P _ ws (closed.parts x (values_in bs false w (Solid x) b v g.0)) g.1) h
 
-  look_in : (l : Look) (rs : List ℕ) → LookIn l → Each Q rs → Each Q (rs ++ look_reads l)
-  look_in (Writable a) rs q h = each_end Q rs a h q
-  look_in (ReadOnly a) rs q h = each_end Q rs a h q
-  look_in (Solid x) rs p h = subst (Each Q) (sym (append-nil rs)) h
+  look_in : (l : Look) (rs : List ℕ) → LookIn l → Each R rs → Each R (rs ++ look_reads l)
+  look_in (Writable a) rs q h = each_end R rs a h (noted a q)
+  look_in (ReadOnly a) rs q h = each_end R rs a h (noted a q)
+  look_in (Solid x) rs p h = subst (Each R) (sym (append-nil rs)) h
 
   -- what a move has
   abbrev MoveIn : Move → Type 0
@@ -180,8 +184,8 @@ module _ (before : WordList) (m : Memory) (P Q : ℕ → Type 0) (closed : IsClo
   TurnIn clashes = Unit {0}
   TurnIn waits = Unit {0}
 
-  does_in : (bs : WordList) (rs rs' : List ℕ) (mv : Move) (t : Turn) → Held bs → MoveIn mv → Each Q rs → Does bs m rs mv t rs'
-      → TurnIn t × Each Q rs'
+  does_in : (bs : WordList) (rs rs' : List ℕ) (mv : Move) (t : Turn) → Held bs → MoveIn mv → Each R rs → Does bs m rs mv t rs'
+      → TurnIn t × Each R rs'
   does_in bs rs _ _ _ b k h nothing = ((b, tt), h)
   does_in bs rs _ _ _ b k h wait = (tt, h)
   does_in bs rs _ _ _ b k h (order p q) = ((go (older_of p q (m (p - 1)) (m (q - 1))), tt), h)
@@ -195,16 +199,16 @@ module _ (before : WordList) (m : Memory) (P Q : ℕ → Type 0) (closed : IsClo
   does_in bs rs _ _ _ b k h (same x y qs e) = ((b, alike_in x y qs e k.0 k.1), h)
   does_in bs rs _ _ _ b k h (other x y e) = (tt, h)
 
-  treats_in : (bs : WordList) (rs rs' : List ℕ) (p : ℕ × ℕ) (t : Turn) → Held bs → Both P p → Each Q rs → Treats bs m rs p t rs'
-      → TurnIn t × Each Q rs'
+  treats_in : (bs : WordList) (rs rs' : List ℕ) (p : ℕ × ℕ) (t : Turn) → Held bs → Both P p → Each R rs → Treats bs m rs p t rs'
+      → TurnIn t × Each R rs'
   treats_in bs rs rs' p t b g h d =
       let l = values_in bs false p.0 d.left b d.left_is g.0 in
       let r = values_in bs false p.1 d.right b d.right_is g.1 in
       does_in bs ((rs ++ look_reads d.left) ++ look_reads d.right) rs' (moved d.left d.right) t b (moved_in d.left d.right l r)
       (look_in d.right (rs ++ look_reads d.left) r (look_in d.left rs l h)) d.does
 
-  unifies_in : (bs : WordList) (rs : List ℕ) (ps : List (ℕ × ℕ)) (e : Ended) → Held bs → Each (Both P) ps → Each Q rs
-      → Unifies m bs rs ps e → EndsIn P Q e
+  unifies_in : (bs : WordList) (rs : List ℕ) (ps : List (ℕ × ℕ)) (e : Ended) → Held bs → Each (Both P) ps → Each R rs
+      → Unifies m bs rs ps e → EndsWith P Q R e
   unifies_in _ _ _ _ b g h (unify.at_end bs rs) = (b.0, h)
   unifies_in _ _ _ _ b g h (on bs rs p ps bs' qs rs' e t u) =
       let d = treats_in bs rs rs' p (unify.goes bs' qs) b g.0 h t in
@@ -215,4 +219,18 @@ module _ (before : WordList) (m : Memory) (P Q : ℕ → Type 0) (closed : IsClo
 -- All that is read and bound has the properties, where the pairs, the bindings and the reads before have them.
 pub keeps_closed : (bs : WordList) (m : Memory) (P Q : ℕ → Type 0) → IsClosed bs m P Q → (rs : List ℕ) (ps : List (ℕ × ℕ)) (e : Ended)
     → BindsIn P Q bs → Each (Both P) ps → Each Q rs → Unifies m bs rs ps e → EndsIn P Q e
-keeps_closed bs m P Q closed rs ps e b g h u = unifies_in bs m P Q closed bs rs ps e (b, λ a i. i) g h u
+keeps_closed bs m P Q closed rs ps e b g h u = unifies_in bs m P Q Q closed (λ a q. q) bs rs ps e (b, λ a i. i) g h u
+
+-- nothing is asked of reads
+abbrev Any : ℕ → Type 0
+Any a = Unit {0}
+
+any : (rs : List ℕ) → Each Any rs
+any [] = tt
+any (a ∷ rs) = (tt, any rs)
+
+-- All that is bound has them, where the pairs and the bindings before have them, whatever was read before.
+pub binds_closed : (bs bs' : WordList) (m : Memory) (P Q : ℕ → Type 0) → IsClosed bs m P Q → (rs rs' : List ℕ) (ps : List (ℕ × ℕ))
+    → BindsIn P Q bs → Each (Both P) ps → Unifies m bs rs ps (done bs' rs') → BindsIn P Q bs'
+binds_closed bs bs' m P Q closed rs rs' ps b g u =
+    (unifies_in bs m P Q Any closed (λ a q. tt) bs rs ps (done bs' rs') (b, λ a i. i) g (any rs) u).0

@@ -43,7 +43,8 @@ the_body : (o : Option Clause) → body_used o ≡ map (rename_goal own) (body_o
 the_body None = refl
 the_body (Some c) = refl
 
-module _ (w : Words) (vs : Addresses) (bound : Bindings) (r : AtHand) (t : Trying) (store : IsStore w vs bound) (formed : ArePieces r.pieces)
+module _ (w : Words) (vs : Addresses) (bound : Bindings) (r : AtHand) (t : Trying) (store : IsStore w vs bound)
+    (formed : ArePieces r.pieces)
     (s : StandsForTry w vs bound r t) where
   abbrev ps : List (List ℕ)
   ps = settled r.binds 4000000000 r.pieces
@@ -171,7 +172,8 @@ module _ (w : Words) (vs : Addresses) (bound : Bindings) (r : AtHand) (t : Tryin
           let g : p.0 ≡ y = same_Some _ _ (sym p.1 ∙ (ap (λ (o : Option ℕ). first_of o (U a)) ib ∙ was)) in
           let d = subst (λ (o : Option (Term Variable)). PlaceSays U V p.0 o) f p.2 in
           subst (λ (o : Option (Term Variable)). FreshSays U' V' (unwrap_or (word_at r.binds a) y) o) (sym e)
-          (subst (λ (o : Option ℕ). decoded (unwrap_or o y) ≡ Some (Unbound 0)) (sym ib) (place_zero y d.0 piece (ap decoded (sym g) ∙ d.1)))
+          (subst (λ (o : Option ℕ). decoded (unwrap_or o y)
+          ≡ Some (Unbound 0)) (sym ib) (place_zero y d.0 piece (ap decoded (sym g) ∙ d.1)))
 
   pub says_commit : (m : Program) (g : Goal Variable)
       → ((e : Decision) × Decides m bound g e

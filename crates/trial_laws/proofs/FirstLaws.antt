@@ -21,7 +21,8 @@ use Rattle.machine_code.specs.Instructions.{GetFirst}
 use Rattle.machine_code.specs.Machine.{Trying}
 use Rattle.trial_laws.specs.AtHand.{AtHand, term_word, ArePieces, GoalsSay, IsStore, StandsForTry}
 use Rattle.trial_laws.specs.Laws.{IsFilled, LawOfFirst}
-use Rattle.trial_laws.proofs.Pieces.{either_word, store_word, word_of_piece, piece_word, place_on, goals_on, named_on, not_empty, starts_once}
+use Rattle.trial_laws.proofs.Pieces.{either_word, store_word, word_of_piece, piece_word, place_on, goals_on, named_on, not_empty}
+use Rattle.trial_laws.proofs.Pieces.{starts_once}
 use Rattle.trial_laws.proofs.Slots.{step, term_says}
 use Rattle.trial_laws.proofs.TriedPlaces.{below}
 
@@ -55,7 +56,8 @@ names_once w vs bound ps store v u a b h l = go (listed_either vs _ v a h) (list
           (λ f. let n : suc g.2 ≡ suc k.2 = sym g.7 ∙ (f ∙ k.7) in g.4 ∙ (ap own (o.1 (omega arith)) ∙ sym k.4)),
         )
 
-module _ (w : Words) (vs : Addresses) (bound : Bindings) (r : AtHand) (t : Trying) (store : IsStore w vs bound) (formed : ArePieces r.pieces)
+module _ (w : Words) (vs : Addresses) (bound : Bindings) (r : AtHand) (t : Trying) (store : IsStore w vs bound)
+    (formed : ArePieces r.pieces)
     (s : StandsForTry w vs bound r t) (i k at : ℕ) (ps : List (List ℕ))
     (listed : Listed (numbered 1 (place_words 4000000000 r.pieces)) (own k) (suc at)) (free : word_at r.binds (suc at) ≡ None)
     (f : IsFilled at (term_word r i) r.pieces ps) where
@@ -139,7 +141,8 @@ module _ (w : Words) (vs : Addresses) (bound : Bindings) (r : AtHand) (t : Tryin
 
   one_more : (v : Variable) → find (bound ++ bs') v ≡ found_or (find (bound ++ t.bound) v) (cond (is_same (own k) v) (Some u) None)
   one_more v =
-      ap (λ (l : Bindings). find l v) (sym (append_assoc bound t.bound ((own k, u) ∷ []))) ∙ find-append (bound ++ t.bound) ((own k, u) ∷ []) v
+      ap (λ (l : Bindings). find l v) (sym (append_assoc bound t.bound ((own k, u) ∷ [])))
+      ∙ find-append (bound ++ t.bound) ((own k, u) ∷ []) v
 
   or_none : (o : Option (Term Variable)) → found_or o None ≡ o
   or_none None = refl

@@ -32,12 +32,14 @@ module _ (w : Words) (vs : Addresses) (bound : Bindings) (r : AtHand) (t : Tryin
       go (Some y) f = f
 
   -- the children say what they said
-  pub children_on : GoalsSay (with_own (r.pieces ++ p ∷ []) w) (with_variables (r.pieces ++ p ∷ []) vs) (process_words 4000000000 r.pieces) t.children
+  pub children_on : GoalsSay (with_own (r.pieces ++ p ∷ []) w) (with_variables (r.pieces ++ p ∷ []) vs)
+      (process_words 4000000000 r.pieces) t.children
   children_on = goals_on _ _ _ _ grows_by listed_on _ t.children s.children
 
   -- with these children
   pub grown_with : (cs : List (Goal Variable))
-      → GoalsSay (with_own (r.pieces ++ p ∷ []) w) (with_variables (r.pieces ++ p ∷ []) vs) (process_words 4000000000 (r.pieces ++ p ∷ [])) cs
+      → GoalsSay (with_own (r.pieces ++ p ∷ []) w) (with_variables (r.pieces ++ p ∷ []) vs) (process_words 4000000000
+      (r.pieces ++ p ∷ [])) cs
       → StandsForTry w vs bound (record r { pieces = r.pieces ++ p ∷ [] }) (record t { children = cs })
   grown_with cs say = record {
     clause = s.clause;

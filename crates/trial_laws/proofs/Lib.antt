@@ -3,6 +3,8 @@ pub mod Growing
 pub mod Slots
 pub mod TriedPlaces
 pub mod PutLaws
+pub mod PieceLaws
+pub mod SpawnLaws
 pub mod TryLaws
 pub mod FirstLaws
 pub mod Settling
@@ -13,3 +15,8 @@ pub mod Seen
 pub mod OpenLaws
 pub mod UnifyEnds
 pub mod UnifyLaws
+pub mod TestLaws
+pub mod BuiltInLaws
+pub mod LedPieces
+pub mod LedLaws
+pub mod LedEnds

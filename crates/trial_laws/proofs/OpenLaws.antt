@@ -141,7 +141,8 @@ solid_tuple p m n c x (cons a b) d e = absurd (no_pair (ap (tuple_in m n) d.1) e
 solid_tuple p m n c x (tuple ts) d e =
     go (nat_eq (part_count ts) n) refl (sym (tuple_here m n d.0 x (part_count ts) d.1 d.2) ∙ e)
   where
-    go : (b : Bool) → nat_eq (part_count ts) n ≡ b → cond (nat_eq (part_count ts) n) (Some d.0) None ≡ Some c → TupleOf p m n c (solid (tuple ts))
+    go : (b : Bool) → nat_eq (part_count ts) n ≡ b → cond (nat_eq (part_count ts) n) (Some d.0) None ≡ Some c
+        → TupleOf p m n c (solid (tuple ts))
     go true f g =
         let h : Some d.0 ≡ Some c = sym (ap (λ (b : Bool). cond b (Some d.0) None) f) ∙ g in
         let i : d.0 ≡ c = cc in
@@ -189,7 +190,8 @@ look_no_tuple p m n (look.ReadOnly a) (read_only v) h e = refl
 look_no_tuple p m n (look.ReadOnly a) (solid t) h e = absurd h
 
 -- the value of a slot's term
-module _ (w : Words) (vs : Addresses) (bound : Bindings) (r : AtHand) (t : Trying) (store : IsStore w vs bound) (formed : ArePieces r.pieces)
+module _ (w : Words) (vs : Addresses) (bound : Bindings) (r : AtHand) (t : Trying) (store : IsStore w vs bound)
+    (formed : ArePieces r.pieces)
     (s : StandsForTry w vs bound r t) where
   abbrev M : Memory
   M = memory_of (with_own r.pieces w)
@@ -220,7 +222,8 @@ pair_opens w vs bound ops args at r t store formed s i left right put c l e v o 
     let one = part_put w vs bound r t store formed s left (memory_of (with_own r.pieces w) c) k.0 k.3 in
     record {
       state = put_in (put_in t left (leaf k.0)) right (leaf k.1);
-      stands = part_put w vs bound (holding r left (memory_of (with_own r.pieces w) c) false) (put_in t left (leaf k.0)) store formed one right
+      stands = part_put w vs bound (holding r left (memory_of (with_own r.pieces w) c) false) (put_in t left
+          (leaf k.0)) store formed one right
           (memory_of (with_own r.pieces w) (c + 1)) k.1 k.4;
       gives = λ d g. step_given bound ops args at (suc at) t _ (GetCons i left right put)
           (λ n. value n (bound ++ t.bound) (as_term (t.slots i)))

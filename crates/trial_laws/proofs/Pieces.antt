@@ -1,5 +1,6 @@
 -- Pieces and their words, where more pieces are put after the others.
-use Rattle.std.proofs.Common.{◌≡◌, ◌⊎◌, ℕ, suc, ◌+◌, ◌<◌, ◌≤◌, Bool, true, false, cond, List, [], ◌∷◌, ◌++◌, length, refl, sym, ap, ◌∙◌, subst}
+use Rattle.std.proofs.Common.{◌≡◌, ◌⊎◌, ℕ, suc, ◌+◌, ◌<◌, ◌≤◌, Bool, true, false, cond, List, [], ◌∷◌, ◌++◌, length, refl, sym, ap, ◌∙◌}
+use Rattle.std.proofs.Common.{subst}
 use Rattle.std.proofs.Common.{inl, inr, ⊎_elim, arith, Option, Some, None}
 use Rattle.std.specs.Prelude.{slice_get}
 use Rattle.std.proofs.lemmas.Bool.{cond-false, cond-true}
@@ -69,7 +70,8 @@ processes_last b (q ∷ ps) p e =
 own_word : (b : ℕ) (ps qs : List (List ℕ)) (a x : ℕ) → word_at (rows b ps) a ≡ Some x → word_at (rows b (ps ++ qs)) a ≡ Some x
 own_word b ps qs a x e =
     let r = in_rows b a x ps e in
-    subst (λ (c : ℕ). word_at (rows b (ps ++ qs)) c ≡ Some x) (sym r.5) (rows_in b r.0 r.1 x (ps ++ qs) r.2 (starts_left b ps qs r.0 r.2 r.3) r.6)
+    subst (λ (c : ℕ). word_at (rows b (ps ++ qs)) c
+    ≡ Some x) (sym r.5) (rows_in b r.0 r.1 x (ps ++ qs) r.2 (starts_left b ps qs r.0 r.2 r.3) r.6)
 
 pub none_low : (ps : List (List ℕ)) (a : ℕ) → a < 4000000000 → word_at (rows 4000000000 ps) a ≡ None
 none_low ps a l = go (word_at (rows 4000000000 ps) a) refl
@@ -120,9 +122,11 @@ pub starts_once : (b : ℕ) (ps : List (List ℕ)) (s : ℕ) (p q : List ℕ) �
 starts_once b [] s p q i j h k = absurd h
 starts_once b (x ∷ ps) s p q i j (inl h) (inl k) = sym h.1 ∙ k.1
 starts_once b (x ∷ ps) s p q i j (inl h) (inr k) =
-    absurd (let l = starts_above (b + length x) ps s q k in let e : b ≡ s = h.0 in let f : length x ≡ length p = ap length h.1 in omega arith)
+    absurd (let l = starts_above (b + length x) ps s q k in let e : b ≡ s = h.0 in let f : length x
+    ≡ length p = ap length h.1 in omega arith)
 starts_once b (x ∷ ps) s p q i j (inr h) (inl k) =
-    absurd (let l = starts_above (b + length x) ps s p h in let e : b ≡ s = k.0 in let f : length x ≡ length q = ap length k.1 in omega arith)
+    absurd (let l = starts_above (b + length x) ps s p h in let e : b ≡ s = k.0 in let f : length x
+    ≡ length q = ap length k.1 in omega arith)
 starts_once b (x ∷ ps) s p q i j (inr h) (inr k) = starts_once (b + length x) ps s p q i j h k
 
 -- What places and processes say goes on to be said where final words stay, and what is named goes on to be.

@@ -30,7 +30,8 @@ own_below ps formed a x e =
     let d = q.4 in let c = q.5 in
     omega arith
 
-module _ (w : Words) (vs : Addresses) (bound : Bindings) (r : AtHand) (t : Trying) (store : IsStore w vs bound) (formed : ArePieces r.pieces)
+module _ (w : Words) (vs : Addresses) (bound : Bindings) (r : AtHand) (t : Trying) (store : IsStore w vs bound)
+    (formed : ArePieces r.pieces)
     (s : StandsForTry w vs bound r t) where
   abbrev U : Words
   U = with_own r.pieces w

@@ -1,13 +1,15 @@
 -- Pieces in which the own places take what they are bound to, and the bindings of the store's places.
-use Rattle.std.proofs.Common.{◌≡◌, ℕ, zero, suc, ◌+◌, ◌<◌, Bool, true, false, cond, List, [], ◌∷◌, length, refl, sym, ap, ◌∙◌, subst, inl, inr}
+use Rattle.std.proofs.Common.{◌≡◌, ◌⊎◌, ℕ, zero, suc, ◌+◌, ◌<◌, Bool, true, false, cond, List, [], ◌∷◌, length, refl, sym, ap, ◌∙◌, subst}
+use Rattle.std.proofs.Common.{inl, inr}
 use Rattle.std.proofs.Common.{arith, true≢false, Option, Some, None}
 use Rattle.std.specs.Prelude.{slice_get, nat_eq, nat_lt, unwrap_or}
 use Rattle.std.proofs.lemmas.Bool.{eqb-true, ltb-true, lt-ltb}
 use Rattle.heap_words.specs.Cells.{decoded, is_final_word, is_final_in}
 use Rattle.heap_words.specs.Trails.{WordList, word_at}
 use Rattle.heap_words.specs.declared.cell.Cell.TheVariants.{Unbound, Raw}
-use Rattle.word_states.specs.Pieces.{StartsAt, is_place, is_process, place_words, process_words, IsPiece, a_place, a_pair, a_tuple, a_wide, a_process}
-use Rattle.word_states.proofs.Pieces.{zero_is}
+use Rattle.word_states.specs.Pieces.{StartsAt, is_place, is_process, place_words, process_words, IsPiece, a_place, a_pair, a_tuple, a_wide}
+use Rattle.word_states.specs.Pieces.{a_process}
+use Rattle.word_states.proofs.Pieces.{zero_is, not_zero, raw_final}
 use Rattle.trial_laws.specs.Endings.{settled_piece, settled, of_store}
 
 same_length : (bs : WordList) (s : ℕ) (p : List ℕ) → length (settled_piece bs s p) ≡ length p
@@ -125,3 +127,53 @@ place_zero y e (a_tuple r n xs q f l g) d =
 place_zero y e (a_wide x z q f) d = absurd (let l : 2 ≡ 1 = ap length q in omega arith)
 place_zero y e (a_process f g r n xs q _ _ _ _) d =
     absurd (let l : 2 ≡ suc (suc (suc (suc (length xs)))) = ap length q in omega arith)
+
+-- what is no place stays
+kept_other : (bs : WordList) (s : ℕ) (x : ℕ) (xs : List ℕ) → nat_eq x 0 ≡ false → settled_piece bs s (x ∷ xs) ≡ x ∷ xs
+kept_other bs s x [] e = refl
+kept_other bs s x (y ∷ []) e = ap (λ (b : Bool). cond b (x ∷ unwrap_or (word_at bs (suc s)) y ∷ []) (x ∷ y ∷ [])) e
+kept_other bs s x (y ∷ z ∷ zs) e = refl
+
+pub kept_pair : (bs : WordList) (s x y : ℕ) → is_final_word x ≡ true → settled_piece bs s (x ∷ y ∷ []) ≡ x ∷ y ∷ []
+kept_pair bs s x y f = kept_other bs s x (y ∷ []) (not_zero x f)
+
+pub kept_tuple : (bs : WordList) (s r n : ℕ) (xs : List ℕ) → decoded r ≡ Some (Raw n) → settled_piece bs s (r ∷ xs) ≡ r ∷ xs
+kept_tuple bs s r n xs e = kept_other bs s r xs (not_zero r (raw_final r n e))
+
+-- a settled piece is one, where the bindings are final
+pub settled_is : (bs : WordList) (s : ℕ) (p : List ℕ) → ((x : ℕ) → word_at bs (suc s) ≡ Some x → is_final_word x ≡ true) → IsPiece p
+    → IsPiece (settled_piece bs s p)
+settled_is bs s p f (a_place x e h) =
+    subst (λ (z : List ℕ). IsPiece (settled_piece bs s z)) (sym e) (a_place (unwrap_or (word_at bs (suc s)) x) refl
+    (go (word_at bs (suc s)) refl))
+  where
+    go : (o : Option ℕ) → word_at bs (suc s) ≡ o
+        → (unwrap_or (word_at bs (suc s)) x ≡ 0) ⊎ (is_final_word (unwrap_or (word_at bs (suc s)) x) ≡ true)
+    go None i = subst (λ (o : Option ℕ). (unwrap_or o x ≡ 0) ⊎ (is_final_word (unwrap_or o x) ≡ true)) (sym i) h
+    go (Some y) i = subst (λ (o : Option ℕ). (unwrap_or o x ≡ 0) ⊎ (is_final_word (unwrap_or o x) ≡ true)) (sym i) (inr (f y i))
+settled_is bs s p f (a_pair x y e g h n) =
+    subst (λ (z : List ℕ). IsPiece (settled_piece bs s z)) (sym e)
+    (subst IsPiece (sym (kept_pair bs s x y g)) (a_pair x y refl g h n))
+settled_is bs s p f (a_tuple r n xs e d l g) =
+    subst (λ (z : List ℕ). IsPiece (settled_piece bs s z)) (sym e)
+    (subst IsPiece (sym (kept_tuple bs s r n xs d)) (a_tuple r n xs refl d l g))
+settled_is bs s p f (a_wide x z e d) = subst (λ (z : List ℕ). IsPiece (settled_piece bs s z)) (sym e) (a_wide x z refl d)
+settled_is bs s p f (a_process g h r n xs e d d' l k) =
+    subst (λ (z : List ℕ). IsPiece (settled_piece bs s z)) (sym e) (a_process g h r n xs refl d d' l k)
+
+-- a word of a settled piece was the piece's, or is a binding
+pub from_settled : (bs : WordList) (s : ℕ) (p : List ℕ) (d x : ℕ) → slice_get (settled_piece bs s p) d ≡ Some x
+    → (slice_get p d ≡ Some x) ⊎ (word_at bs (suc s) ≡ Some x)
+from_settled bs s [] d x e = inl e
+from_settled bs s (y ∷ []) d x e = inl e
+from_settled bs s (y ∷ z ∷ []) d x e = go (nat_eq y 0) d (word_at bs (suc s)) refl e
+  where
+    go : (b : Bool) (d : ℕ) (o : Option ℕ) → word_at bs (suc s) ≡ o
+        → slice_get (cond b (y ∷ unwrap_or (word_at bs (suc s)) z ∷ []) (y ∷ z ∷ [])) d ≡ Some x
+        → (slice_get (y ∷ z ∷ []) d ≡ Some x) ⊎ (word_at bs (suc s) ≡ Some x)
+    go false d o i f = inl f
+    go true zero o i f = inl f
+    go true (suc zero) None i f = inl (sym (ap (λ (o : Option ℕ). Some (unwrap_or o z)) i) ∙ f)
+    go true (suc zero) (Some v) i f = inr (i ∙ (sym (ap (λ (o : Option ℕ). Some (unwrap_or o z)) i) ∙ f))
+    go true (suc (suc d)) o i f = inl f
+from_settled bs s (y ∷ z ∷ z' ∷ zs) d x e = inl e

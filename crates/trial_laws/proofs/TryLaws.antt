@@ -16,16 +16,20 @@ use Rattle.word_states.proofs.Pieces.{variable_at, located_starts, rows_in, zero
 use Rattle.machine_code.specs.Slots.{arguments, argument}
 use Rattle.machine_code.specs.Instructions.{Try}
 use Rattle.machine_code.specs.Machine.{Trying}
-use Rattle.trial_laws.specs.AtHand.{AtHand, is_operator, GoalsSay, IsStore, StandsForTry}
+use Rattle.trial_laws.specs.AtHand.{AtHand, is_operator, end_of, GoalsSay, IsStore, StandsForTry}
 use Rattle.trial_laws.specs.Laws.{places_for, AreArguments, begun, LawOfTry, LawOfStart, LawOfLeaving}
 use Rattle.trial_laws.proofs.Pieces.{piece_word, store_word, place_on}
 use Rattle.trial_laws.proofs.Slots.{step, nil_is}
 use Rattle.trial_laws.proofs.TriedPlaces.{read_among}
 
-place_only : (n b a : ℕ) (p : List ℕ) → StartsAt b (places_for n) a p → p ≡ 0 ∷ 0 ∷ []
+pub place_only : (n b a : ℕ) (p : List ℕ) → StartsAt b (places_for n) a p → p ≡ 0 ∷ 0 ∷ []
 place_only zero b a p h = absurd h
 place_only (suc n) b a p (inl h) = sym h.1
 place_only (suc n) b a p (inr h) = place_only n (b + 2) a p h
+
+pub end_places : (n b : ℕ) → end_of b (places_for n) ≡ b + n + n
+end_places zero b = omega arith
+end_places (suc n) b = let h = end_places n (b + 2) in omega arith
 
 no_process : (n b : ℕ) → process_words b (places_for n) ≡ []
 no_process zero b = refl

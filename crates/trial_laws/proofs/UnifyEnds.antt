@@ -56,7 +56,8 @@ unbound_cell (Some (cell.Raw n)) h = absurd (true≢false (sym h))
 unbound_cell (Some (cell.Top a)) h = absurd (true≢false (sym h))
 unbound_cell None h = absurd (true≢false (sym h))
 
-module _ (w : Words) (vs : Addresses) (bound : Bindings) (r : AtHand) (t : Trying) (store : IsStore w vs bound) (formed : ArePieces r.pieces)
+module _ (w : Words) (vs : Addresses) (bound : Bindings) (r : AtHand) (t : Trying) (store : IsStore w vs bound)
+    (formed : ArePieces r.pieces)
     (s : StandsForTry w vs bound r t) (i j : ℕ) (e : Ended) (unifies : UnifiesSlots r w i j e) where
   abbrev U : Words
   U = with_own r.pieces w

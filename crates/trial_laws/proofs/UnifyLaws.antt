@@ -35,7 +35,8 @@ use Rattle.word_states.specs.Words.{At}
 use Rattle.trial_laws.proofs.UnifyEnds.{none_bound, so, found, ends_named, ends_open, calls, opened_here}
 
 -- done: what is at hand with the new bindings and reads
-module _ (w : Words) (vs : Addresses) (bound : Bindings) (r : AtHand) (t : Trying) (store : IsStore w vs bound) (formed : ArePieces r.pieces)
+module _ (w : Words) (vs : Addresses) (bound : Bindings) (r : AtHand) (t : Trying) (store : IsStore w vs bound)
+    (formed : ArePieces r.pieces)
     (s : StandsForTry w vs bound r t) (i j : ℕ) (bs : WordList) (rs : List ℕ) (unifies : UnifiesSlots r w i j (done bs rs)) (us : Bindings)
     (st : Stands (naming (with_variables r.pieces vs)) (memory_of (with_own r.pieces w)) bs (bound ++ us))
     (new : BindsNamed (naming (with_variables r.pieces vs)) (memory_of (with_own r.pieces w)) bound t.bound

@@ -16,9 +16,9 @@ use Rattle.state_laws.proofs.ReadVariables.{Every}
 use Rattle.word_states.specs.Words.{Words, IsIn, AreDistinct}
 use Rattle.word_states.specs.Denoting.{Addresses, Listed}
 use Rattle.word_states.specs.Trials.{WaitSays}
-use Rattle.machine_code.specs.Machine.{Trying, Meaning, follow, obey, ending}
+use Rattle.machine_code.specs.Machine.{Meaning, follow, obey, ending}
 use Rattle.machine_code.specs.Correct.{decision_of}
-use Rattle.trial_laws.specs.AtHand.{AtHand, IsAmong, IsStore, StandsForTry}
+use Rattle.trial_laws.specs.AtHand.{IsAmong, ArePlacesAmong, IsStore}
 use Rattle.trial_laws.specs.Endings.{LawOfFail, LawOfWait}
 use Rattle.trial_laws.proofs.Counting.{In, AreApart, at_most}
 
@@ -161,31 +161,33 @@ are_apart (a ∷ as') d = ((λ i. d.0 (in_is a as' i)), are_apart as' d.1)
 le_both : (a b : ℕ) → a ≤ b → b ≤ a → a ≡ b
 le_both a b h i = omega arith
 
--- what the code gives where no instruction stands
-module _ (w : Words) (vs : Addresses) (bound : Bindings) (r : AtHand) (t : Trying) (store : IsStore w vs bound)
-    (s : StandsForTry w vs bound r t) (m : Program) (g : Goal Variable) where
-  pub waits_so : Decides m bound g (waits_on t.earlier) → AreDistinct r.waits → WaitSays m w vs bound g r.waits
-  waits_so d apart = record {
-    reads = t.earlier;
+-- A goal that waits for the places among these variables waits for the addresses of these places.
+module _ (w : Words) (vs : Addresses) (bound : Bindings) (store : IsStore w vs bound) (m : Program) (g : Goal Variable) (places : List ℕ)
+    (qs : List Variable) (same : ArePlacesAmong vs places qs) where
+  same_made : (i j : Place) → made i ≡ made j → i ≡ j
+  same_made i j e = cc
+
+  at_place : (a : ℕ) → In a places → (j : Place) × Listed vs (made j) a × In j (places_among qs)
+  at_place a i = let k = same.only a (in_is a places i) in (k.0, k.1, listed_in (places_among qs) k.0 (among_listed qs k.0 k.2))
+
+  at_address : (j : Place) → In j (places_among qs) → (a : ℕ) × Listed vs (made j) a × In a places
+  at_address j i = let k = same.all j (in_places qs j i) in (k.0, k.1, is_in k.0 places k.2)
+
+  pub says_wait : Decides m bound g (waits_on qs) → AreDistinct places → WaitSays m w vs bound g places
+  says_wait d apart = record {
+    reads = qs;
     decides = d;
-    all = λ j h. let i = in_places t.earlier j (listed_in (places_among t.earlier) j h) in
-        let k = s.waits.all j i in
-        (k.0, k.1, k.2, unbound_at bound t.earlier (made j) (reads_are_unbound m bound g (waits_on t.earlier) d) i);
-    only = λ a i. let k = s.waits.only a i in (k.0, k.1, among_listed t.earlier k.0 k.2);
-    count = le_both (length r.waits) (length (places_among t.earlier))
-        (at_most (λ (a : ℕ) (j : Place). Listed vs (made j) a)
-        (λ a b j h k. (store.says.once (made j) (made j) a b h k).0 refl)
-        r.waits (places_among t.earlier) (are_apart r.waits apart)
-        (λ a i. let k = s.waits.only a (in_is a r.waits i) in
-        (k.0, k.1, listed_in (places_among t.earlier) k.0 (among_listed t.earlier k.0 k.2))))
+    all = λ j h. let i = in_places qs j (listed_in (places_among qs) j h) in
+        let k = same.all j i in
+        (k.0, k.1, k.2, unbound_at bound qs (made j) (reads_are_unbound m bound g (waits_on qs) d) i);
+    only = λ a i. let k = same.only a i in (k.0, k.1, among_listed qs k.0 k.2);
+    count = le_both (length places) (length (places_among qs))
+        (at_most (λ (a : ℕ) (j : Place). Listed vs (made j) a) (λ a b j h k. (store.says.once (made j) (made j) a b h k).0 refl)
+        places (places_among qs) (are_apart places apart) at_place)
         (at_most (λ (j : Place) (a : ℕ). Listed vs (made j) a)
         (λ i j a h k. same_made i j ((store.says.once (made i) (made j) a a h k).1 refl))
-        (places_among t.earlier) r.waits (rise_apart (places_among t.earlier) (places_rise t.earlier))
-        (λ j i. let k = s.waits.all j (in_places t.earlier j i) in (k.0, k.1, is_in k.0 r.waits k.2)));
+        (places_among qs) places (rise_apart (places_among qs) (places_rise qs)) at_address);
   }
-    where
-      same_made : (i j : Place) → made i ≡ made j → i ≡ j
-      same_made i j e = cc
 
 pub fail_says : LawOfFail
 fail_says w vs bound ops args at r t store formed s m g e source all = record {
@@ -202,7 +204,7 @@ fail_says w vs bound ops args at r t store formed s m g e source all = record {
 
 pub wait_says : LawOfWait
 wait_says w vs bound ops args at r t store formed s m g e source some apart =
-    waits_so w vs bound r t store s m g
+    says_wait w vs bound store m g r.waits t.earlier s.waits
     (ends (ending t) (source (ending t) (1, ap (λ o. obey (follow 0 bound ops args) 0 bound args at t o) e)) waited) apart
   where
     waited : (ending t).decision ≡ waits_on t.earlier

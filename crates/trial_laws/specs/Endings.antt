@@ -36,7 +36,8 @@ of_store (b ∷ bs) = if nat_lt b.0 4000000000 then b ∷ of_store bs else of_st
 
 -- what the code gives from here on is what the clauses decide
 abbrev pub IsOfSource : Program → Bindings → Goal Variable → List Op → List (Term Variable) → ℕ → Trying → Type 0
-IsOfSource m bound g ops args at t = (d : Meaning) → Gives bound ops args at t d → (e : Decision) × Decides m bound g e × (d ≡ decision_of m g e)
+IsOfSource m bound g ops args at t = (d : Meaning) → Gives bound ops args at t d
+    → (e : Decision) × Decides m bound g e × (d ≡ decision_of m g e)
 
 -- At a commit the bindings of the store's places and the settled pieces say what the clauses decide.
 abbrev pub LawOfCommit : Type 0

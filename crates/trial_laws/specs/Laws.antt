@@ -1,5 +1,5 @@
 -- The laws of the instructions: what each leaves at hand stands for the try that it leaves by the meaning of code.
-use Rattle.std.specs.Prelude.{◌≡◌, ◌⊎◌, ◌↔◌, ℕ, zero, suc, ◌+◌, ◌<◌, ◌≤◌, Bool, true, false, List, [], ◌∷◌, ◌++◌, Some, None}
+use Rattle.std.specs.Prelude.{◌≡◌, ◌⊎◌, ◌↔◌, ℕ, zero, suc, ◌<◌, Bool, true, false, List, [], ◌∷◌, length, ◌++◌, Some, None}
 use Rattle.std.specs.Prelude.{if◌then◌else◌, nat_eq, slice_get}
 use Rattle.fcp_model.specs.Places.{Variable, own}
 use Rattle.fcp_model.specs.Terms.{Term, Bindings}
@@ -10,7 +10,7 @@ use Rattle.word_states.specs.Words.{Words, IsIn}
 use Rattle.word_states.specs.Denoting.{Addresses, Listed, Denotes, ExprSays}
 use Rattle.word_states.specs.Pieces.{StartsAt, place_words, process_words, numbered, with_variables}
 use Rattle.machine_code.specs.Slots.{arguments}
-use Rattle.machine_code.specs.Instructions.{Op, Try, GetFirst, PutVar, PutWord, PutCons, Jump}
+use Rattle.machine_code.specs.Instructions.{Op, Try, GetFirst, PutVar, PutWord, Jump}
 use Rattle.machine_code.specs.Machine.{Trying, untried}
 use Rattle.trial_laws.specs.AtHand.{AtHand, term_word, end_of, ArePieces, AreCalled, IsStore, StandsForTry, Leads}
 
@@ -21,15 +21,18 @@ holding r i x o = record r {
   operators = λ j. if nat_eq j i then o else r.operators j;
 }
 
--- a slot takes a term's word; pieces may have been put after the others
-abbrev pub filled : AtHand → ℕ → ℕ → List (List ℕ) → AtHand
-filled r i x ps = holding (record r { pieces = ps }) i x false
+-- a slot takes a term's word
+abbrev pub filled : AtHand → ℕ → ℕ → AtHand
+filled r i x = holding r i x false
 
 -- the word of the own place after s, which was not bound, has become x
 pub record IsFilled (s x : ℕ) (ps ps' : List (List ℕ)) : Type 0 where
   pub was : StartsAt 4000000000 ps s (0 ∷ 0 ∷ [])
   pub now : StartsAt 4000000000 ps' s (0 ∷ x ∷ [])
   pub others : (a : ℕ) (p : List ℕ) → (a ≡ s → ⊥) → StartsAt 4000000000 ps a p → StartsAt 4000000000 ps' a p
+  pub back : (a : ℕ) (p : List ℕ) → (a ≡ s → ⊥) → StartsAt 4000000000 ps' a p → StartsAt 4000000000 ps a p
+  pub no_empty : (a : ℕ) (p : List ℕ) → StartsAt 4000000000 ps' a p → 0 < length p
+  pub same_end : end_of 4000000000 ps' ≡ end_of 4000000000 ps
   pub same_places : place_words 4000000000 ps' ≡ place_words 4000000000 ps
   pub same_processes : process_words 4000000000 ps' ≡ process_words 4000000000 ps
 
@@ -46,25 +49,18 @@ LawOfJump = Always (λ w vs bound ops args at r t. (to : ℕ) → slice_get ops 
 abbrev pub LawOfVariable : Type 0
 LawOfVariable = Always (λ w vs bound ops args at r t. (i k a : ℕ) → slice_get ops at ≡ Some (PutVar i k false)
     → Listed (numbered 1 (place_words 4000000000 r.pieces)) (own k) a
-    → Leads w vs bound ops args at t (suc at) (filled r i (encoded (cell.Ref a)) r.pieces))
+    → Leads w vs bound ops args at t (suc at) (filled r i (encoded (cell.Ref a))))
 
 -- or a read-only one
 abbrev pub LawOfReadOnly : Type 0
 LawOfReadOnly = Always (λ w vs bound ops args at r t. (i k a : ℕ) → slice_get ops at ≡ Some (PutVar i k true)
     → Listed (numbered 1 (place_words 4000000000 r.pieces)) (own k) a
-    → Leads w vs bound ops args at t (suc at) (filled r i (encoded (cell.RoRef a)) r.pieces))
+    → Leads w vs bound ops args at t (suc at) (filled r i (encoded (cell.RoRef a))))
 
 -- the slot takes a constant, whose word denotes it wherever it stands
 abbrev pub LawOfConstant : Type 0
 LawOfConstant = Always (λ w vs bound ops args at r t. (i x : ℕ) (c : Term Variable) → slice_get ops at ≡ Some (PutWord i c)
-    → ((u : Words) (us : Addresses) → Denotes u us x c) → Leads w vs bound ops args at t (suc at) (filled r i x r.pieces))
-
--- the slot takes a new pair
-abbrev pub LawOfPair : Type 0
-LawOfPair = Always (λ w vs bound ops args at r t. (i left right : ℕ) → slice_get ops at ≡ Some (PutCons i left right)
-    → end_of 4000000000 r.pieces + 2 ≤ 0x100000000
-    → Leads w vs bound ops args at t (suc at)
-    (filled r i (encoded (cell.Cons (end_of 4000000000 r.pieces))) (r.pieces ++ (term_word r left ∷ term_word r right ∷ []) ∷ [])))
+    → ((u : Words) (us : Addresses) → Denotes u us x c) → Leads w vs bound ops args at t (suc at) (filled r i x))
 
 -- the own place takes the slot's word
 abbrev pub LawOfFirst : Type 0

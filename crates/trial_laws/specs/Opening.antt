@@ -1,4 +1,5 @@
--- The laws of the instructions that open a value: a pair or a tuple gives its parts to slots, and any other goes on to where the term is put.
+-- The laws of the instructions that open a value: a pair or a tuple gives its parts to slots, and any other goes on to where the term is
+-- put.
 use Rattle.std.specs.Prelude.{◌≡◌, ℕ, suc, ◌+◌, Bool, false, List, [], ◌∷◌, Option, Some, None, if◌then◌else◌, nat_eq, slice_get}
 use Rattle.heap_words.specs.Cells.{decoded}
 use Rattle.heap_words.specs.Trails.{Memory}
@@ -50,7 +51,8 @@ LookAt r m i l = Values r.binds m false (term_word r i) l
 
 -- a pair gives its two parts
 abbrev pub LawOfPairOpened : Type 0
-LawOfPairOpened = Always (λ w vs bound ops args at r t. (i left right put c : ℕ) (l : Look) → slice_get ops at ≡ Some (GetCons i left right put)
+LawOfPairOpened = Always (λ w vs bound ops args at r t. (i left right put c : ℕ) (l : Look)
+    → slice_get ops at ≡ Some (GetCons i left right put)
     → LookAt r (memory_of (with_own r.pieces w)) i l → pair_at l ≡ Some c
     → Leads w vs bound ops args at t (suc at)
     (holding (holding r left (memory_of (with_own r.pieces w) c) false) right (memory_of (with_own r.pieces w) (c + 1)) false))
@@ -68,6 +70,7 @@ LawOfTupleOpened = Always (λ w vs bound ops args at r t. (i first parts put c :
     → Leads w vs bound ops args at t (suc at) (holding_all r first (words_after (memory_of (with_own r.pieces w)) c parts)))
 
 abbrev pub LawOfNoTuple : Type 0
-LawOfNoTuple = Always (λ w vs bound ops args at r t. (i first parts put : ℕ) (l : Look) → slice_get ops at ≡ Some (GetTuple i first parts put)
+LawOfNoTuple = Always (λ w vs bound ops args at r t. (i first parts put : ℕ) (l : Look)
+    → slice_get ops at ≡ Some (GetTuple i first parts put)
     → LookAt r (memory_of (with_own r.pieces w)) i l → tuple_at (memory_of (with_own r.pieces w)) parts l ≡ None
     → Leads w vs bound ops args at t put r)

@@ -1,0 +1,87 @@
+-- The laws of the instructions that put a new piece after the others: a pair, a tuple, an operation, a wide number, a process.
+use Rattle.std.specs.Prelude.{◌≡◌, ℕ, zero, suc, ◌+◌, ◌*◌, ◌<◌, ◌≤◌, ℤ, true, false, List, [], ◌∷◌, ◌++◌, length, Some, None, slice_get}
+use Rattle.std.specs.Prelude.{if◌then◌else◌, nat_eq}
+use Rattle.fcp_model.specs.declared.term.ArithOp.{ArithOp}
+use Rattle.fcp_model.specs.declared.goal.TheConstants.{TRUE_PROCEDURE, UNIFY_PROCEDURE, ASSIGN_PROCEDURE}
+use Rattle.fcp_model.specs.Terms.{number}
+use Rattle.heap_words.specs.Cells.{decoded, encoded}
+use Rattle.heap_words.specs.declared.cell.Cell.TheVariants as cell
+use Rattle.word_states.specs.Denoting.{operator_code}
+use Rattle.word_states.specs.Numbers.{bits, low_bits, IsLong}
+use Rattle.machine_code.specs.Instructions.{PutWord, PutCons, PutTuple, Spawn}
+use Rattle.trial_laws.specs.AtHand.{AtHand, term_word, end_of, Leads}
+use Rattle.trial_laws.specs.Laws.{Always, holding}
+
+-- where the next piece begins
+abbrev pub next_piece : AtHand → ℕ
+next_piece r = end_of 4000000000 r.pieces
+
+-- a piece is put after the others
+abbrev pub with_piece : AtHand → List ℕ → AtHand
+with_piece r p = record r { pieces = r.pieces ++ p ∷ [] }
+
+-- and a piece of so many words has room
+abbrev pub HasRoom : AtHand → ℕ → Type 0
+HasRoom r n = next_piece r + n ≤ 0x100000000
+
+-- the words of so many slots from i on, as terms
+abbrev pub term_words : AtHand → ℕ → ℕ → List ℕ
+term_words r i zero = []
+term_words r i (suc n) = term_word r i ∷ term_words r (suc i) n
+
+-- a slot takes a new pair
+abbrev pub LawOfPair : Type 0
+LawOfPair = Always (λ w vs bound ops args at r t. (i left right : ℕ) → slice_get ops at ≡ Some (PutCons i left right) → HasRoom r 2
+    → Leads w vs bound ops args at t (suc at)
+    (holding (with_piece r (term_word r left ∷ term_word r right ∷ [])) i (encoded (cell.Cons (next_piece r))) false))
+
+-- a new tuple, of fewer than 66 parts
+abbrev pub LawOfTuple : Type 0
+LawOfTuple = Always (λ w vs bound ops args at r t. (i from n : ℕ) → slice_get ops at ≡ Some (PutTuple i from n None) → n < 66
+    → HasRoom r (suc n)
+    → Leads w vs bound ops args at t (suc at)
+    (holding (with_piece r (encoded (cell.Raw n) ∷ term_words r from n)) i (encoded (cell.Tuple (next_piece r))) false))
+
+-- a new operation, whose operands are the contents of two slots
+abbrev pub LawOfOperation : Type 0
+LawOfOperation = Always (λ w vs bound ops args at r t. (i from n : ℕ) (o : ArithOp) → slice_get ops at ≡ Some (PutTuple i from n (Some o))
+    → HasRoom r 3
+    → Leads w vs bound ops args at t (suc at)
+    (holding (with_piece r (encoded (cell.Raw (66 + operator_code o)) ∷ r.slots from ∷ r.slots (suc from) ∷ [])) i
+    (encoded (cell.Tuple (next_piece r))) true))
+
+-- a new wide number, by the word with its lower 56 bits and its upper eight
+abbrev pub LawOfWide : Type 0
+LawOfWide = Always (λ w vs bound ops args at r t. (i x h : ℕ) (z low : ℤ) → slice_get ops at ≡ Some (PutWord i (number z))
+    → decoded x ≡ Some (cell.Small low) → bits z ≡ h * 0x100000000000000 + low_bits low → IsLong z → h < 256 → HasRoom r 1
+    → Leads w vs bound ops args at t (suc at) (holding (with_piece r (x ∷ [])) i (encoded (cell.Wide (next_piece r) h)) false))
+
+-- the piece of a process: 9, the word of the status Ready; its name, which is 0 until the entry has its number; its procedure and its
+-- arguments
+abbrev pub process_piece : ℕ → List ℕ → List ℕ
+process_piece f xs = 9 ∷ 0 ∷ encoded (cell.Raw f) ∷ encoded (cell.Raw (length xs)) ∷ xs
+
+-- of `true`, and of `=` and `:=`, which have two arguments
+abbrev pub true_piece : List ℕ
+true_piece = process_piece TRUE_PROCEDURE []
+
+abbrev pub unify_piece : AtHand → ℕ → ℕ → List ℕ
+unify_piece r i (suc (suc n)) = process_piece UNIFY_PROCEDURE (term_word r i ∷ term_word r (suc i) ∷ [])
+unify_piece r i _ = true_piece
+
+abbrev pub assign_piece : AtHand → ℕ → ℕ → List ℕ
+assign_piece r i (suc (suc n)) = process_piece ASSIGN_PROCEDURE (term_word r i ∷ r.slots (suc i) ∷ [])
+assign_piece r i _ = true_piece
+
+-- the piece of the process that calls a procedure with the contents of slots
+abbrev pub child_piece : AtHand → ℕ → ℕ → ℕ → List ℕ
+child_piece r p i n =
+    if nat_eq p TRUE_PROCEDURE then true_piece else
+    (if nat_eq p UNIFY_PROCEDURE then unify_piece r i n else
+    (if nat_eq p ASSIGN_PROCEDURE then assign_piece r i n else process_piece p (term_words r i n)))
+
+-- a new child
+abbrev pub LawOfSpawn : Type 0
+LawOfSpawn = Always (λ w vs bound ops args at r t. (p i n : ℕ) → slice_get ops at ≡ Some (Spawn p i n) → p ≤ ASSIGN_PROCEDURE
+    → n < 0x100000000 → HasRoom r (length (child_piece r p i n))
+    → Leads w vs bound ops args at t (suc at) (with_piece r (child_piece r p i n)))
