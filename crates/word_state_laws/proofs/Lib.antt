@@ -1,0 +1,17 @@
+pub mod Moving
+pub mod LaidPieces
+pub mod NewNames
+pub mod Settling
+pub mod Hanging
+pub mod Committing
+pub mod Waking
+pub mod LaidWords
+pub mod LaidPlaces
+pub mod LaidChildren
+pub mod CommitPlans
+pub mod HangPlans
+pub mod HangLaying
+pub mod Going
+pub mod Forming
+pub mod TriedMoves
+pub mod Alike
