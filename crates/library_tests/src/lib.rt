@@ -12,8 +12,12 @@ mod model;
 #[cfg(test)]
 mod reader;
 #[cfg(test)]
+mod slots;
+#[cfg(test)]
 mod streams;
 #[cfg(test)]
 mod terminals;
 #[cfg(test)]
 mod text;
+#[cfg(test)]
+mod waiting_lists;
