@@ -16,6 +16,8 @@ mod reader;
 #[cfg(test)]
 mod sheet;
 #[cfg(test)]
+mod slots;
+#[cfg(test)]
 mod streams;
 #[cfg(test)]
 mod terminals;
@@ -23,3 +25,5 @@ mod terminals;
 mod text;
 #[cfg(test)]
 mod value_texts;
+#[cfg(test)]
+mod waiting_lists;

@@ -84,9 +84,9 @@ lacks_falls as' a (suc n) i h = go (λ l. lacks_falls as' a n l h) (nat_eq a.at 
         let below : a.at < n = grind (arith, nat_tests, i, e) in
         omega (arith, absent_more as' a n, absent_less (stands_at as' n) (nat_eq a.at n), rec below)
 
--- The ranks of links fall along a path.
+-- The order of links falls along a path.
 module _ (w at : Words) (acyclic : Acyclic at) (shows : (a x : ℕ) → w a ≡ Some x → is_final_word x ≡ true → at a ≡ Some x) where
-  link_falls : (a b : Entry) (l m : ℕ) → IsEntry w a l → IsEntry w b m → b.at ≡ l → acyclic.rank (b.at + 2) < acyclic.rank (a.at + 2)
+  link_falls : (a b : Entry) (l m : ℕ) → IsEntry w a l → IsEntry w b m → b.at ≡ l → acyclic.order (b.at + 2) < acyclic.order (a.at + 2)
   link_falls a b l m i j e =
       let x = i.link.0 in
       let y = j.process.0 in
@@ -94,22 +94,22 @@ module _ (w at : Words) (acyclic : Acyclic at) (shows : (a x : ℕ) → w a ≡ 
       let above : 0 < link_of (decoded x) = subst (λ (n : ℕ). 0 < n) (sym to) j.above in
       let link : decoded x ≡ Some (Cons b.at) = is_cons (decoded x) above ∙ ap (λ (n : ℕ). Some (Cons n)) to in
       let raw : decoded y ≡ Some (Raw b.process) = is_raw (decoded y) b.process j.process.2 in
-      acyclic.falls_by (a.at + 2) (b.at + 2) x b.at y b.process (Cons b.at) (shows (a.at + 2) x i.link.1 (ap is_final_in link)) link refl
-      (shows b.at y j.process.1 (ap is_final_in raw)) raw (inr refl)
+      acyclic.links (a.at + 2) b.at x y b.process (shows (a.at + 2) x i.link.1 (ap is_final_in link)) link
+      (shows b.at y j.process.1 (ap is_final_in raw)) raw
 
   path_falls : (as' : List Entry) (f e m : ℕ) (b : Entry) → Path w f as' e → IsEntry w b m → b.at ≡ e → (a : Entry) → IsOneOf a as'
-      → acyclic.rank (b.at + 2) < acyclic.rank (a.at + 2)
+      → acyclic.order (b.at + 2) < acyclic.order (a.at + 2)
   path_falls [] f e m b p j i a o = absurd o
   path_falls (c ∷ []) f e m b p j i a o =
-      ⊎_elim (λ k. subst (λ (d : Entry). acyclic.rank (b.at + 2) < acyclic.rank (d.at + 2)) k
+      ⊎_elim (λ k. subst (λ (d : Entry). acyclic.order (b.at + 2) < acyclic.order (d.at + 2)) k
       (link_falls c b p.1.0 m p.1.1 j (i ∙ sym p.1.2))) (λ k. absurd k) o
   path_falls (c ∷ d ∷ ds) f e m b p j i a o =
-      let rec : (a : Entry) → IsOneOf a (d ∷ ds) → acyclic.rank (b.at + 2) < acyclic.rank (a.at + 2) =
+      let rec : (a : Entry) → IsOneOf a (d ∷ ds) → acyclic.order (b.at + 2) < acyclic.order (a.at + 2) =
       path_falls (d ∷ ds) p.1.0 e m b p.1.2 j i in
-      let first : acyclic.rank (b.at + 2) < acyclic.rank (c.at + 2) =
+      let first : acyclic.order (b.at + 2) < acyclic.order (c.at + 2) =
       let r = rec d (inl refl) in
       let s = link_falls c d p.1.0 p.1.2.1.0 p.1.1 p.1.2.1.1 p.1.2.0 in omega (arith, r, s) in
-      ⊎_elim (λ k. subst (λ (d : Entry). acyclic.rank (b.at + 2) < acyclic.rank (d.at + 2)) k first) (λ k. rec a k) o
+      ⊎_elim (λ k. subst (λ (d : Entry). acyclic.order (b.at + 2) < acyclic.order (d.at + 2)) k first) (λ k. rec a k) o
 
   path_apart : (as' : List Entry) (f e m : ℕ) (b : Entry) → Path w f as' e → IsEntry w b m → b.at ≡ e → stands_at as' b.at ≡ false
   path_apart as' f e m b p j i = go (stands_at as' b.at) refl
@@ -119,7 +119,7 @@ module _ (w at : Words) (acyclic : Acyclic at) (shows : (a x : ℕ) → w a ≡ 
       go true h =
           let r = standing as' b.at h in
           let s = path_falls as' f e m b p j i r.0 r.1 in
-          let same : acyclic.rank (r.0.at + 2) ≡ acyclic.rank (b.at + 2) = ap (λ (n : ℕ). acyclic.rank (n + 2)) r.2 in
+          let same : acyclic.order (r.0.at + 2) ≡ acyclic.order (b.at + 2) = ap (λ (n : ℕ). acyclic.order (n + 2)) r.2 in
           absurd (omega (arith, s, same))
 
 module _ {S : Type 0} {addresses : S → ℕ} {sound : S → Type 0} {knows : S → ℕ → Type 0} {had : S → ℕ → ℕ → Type 0} {leads : S → ℕ → Type 0}
