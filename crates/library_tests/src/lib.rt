@@ -14,16 +14,8 @@ mod model;
 #[cfg(test)]
 mod reader;
 #[cfg(test)]
-mod sheet;
-#[cfg(test)]
-mod slots;
-#[cfg(test)]
 mod streams;
 #[cfg(test)]
 mod terminals;
 #[cfg(test)]
 mod text;
-#[cfg(test)]
-mod value_texts;
-#[cfg(test)]
-mod waiting_lists;

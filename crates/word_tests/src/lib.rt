@@ -1,9 +1,15 @@
-//! Tests of what works on words: unification, and the tests and expressions of guards.
+//! Tests of what works on words: unification, the tests and expressions of guards, texts of values, waiting lists.
 #![tactic(auto)]
 
 #[cfg(test)]
 mod guards;
 #[cfg(test)]
+mod slots;
+#[cfg(test)]
 mod unification;
+#[cfg(test)]
+mod value_texts;
+#[cfg(test)]
+mod waiting_lists;
 #[cfg(test)]
 mod words;

@@ -2,9 +2,9 @@
 ghost use Rattle.std.specs.Prelude.{◌≡◌, ◌<◌, ◌≤◌, None, Some, length};
 ghost use Rattle.heap_words.specs.Cells.{decoded};
 ghost use Rattle.heap_words.specs.Heaps.{only_final};
-ghost use Rattle.library_tests.specs.Slots.{is_entry, in_entry, does_fit, fitting, word_in, LeadsIn};
-ghost use Rattle.library_tests.specs.SlotLaws.{slot_laws};
-ghost use Rattle.library_tests.specs.declared.slots.Slots.{Slots};
+ghost use Rattle.word_tests.specs.Slots.{is_entry, in_entry, does_fit, fitting, word_in, LeadsIn};
+ghost use Rattle.word_tests.specs.SlotLaws.{slot_laws};
+ghost use Rattle.word_tests.specs.declared.slots.Slots.{Slots};
 
 use heap_words::{Cell, Words, decode};
 

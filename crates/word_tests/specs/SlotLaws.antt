@@ -11,7 +11,7 @@ use Rattle.heap_words.specs.WordsLaws.{WordsLaws}
 use Rattle.heap_words.specs.declared.cell.Cell.{Cell}
 use Rattle.heap_words.specs.declared.cell.Cell.TheVariants.{Unbound, Ref, RoRef, Small, Wide, Str, Nil, Cons, Tuple, Status, Raw, Top}
 use Rattle.heap_words.specs.declared.cell.Stand.{Stand}
-use Rattle.library_tests.specs.Slots.{in_entry, does_fit, fitting, word_in, LeadsIn}
+use Rattle.word_tests.specs.Slots.{in_entry, does_fit, fitting, word_in, LeadsIn}
 
 no_false : {A : Type 0} → false ≡ true → A
 no_false e = cc

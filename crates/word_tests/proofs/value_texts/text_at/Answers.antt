@@ -1,5 +1,5 @@
 use Rattle.ro_unify.proofs.Starting.{starts_holding, starts_tame}
-use Rattle.library_tests.proofs.value_texts.text_at.Goals as goal
+use Rattle.word_tests.proofs.value_texts.text_at.Goals as goal
 
 pub value_text-requires-clause-sound : goal.value_text-requires-clause-sound
 value_text-requires-clause-sound g c = g.met.W.Words.laws.stays_sound _ _ c.requires.sound c.load-word.ensures.later

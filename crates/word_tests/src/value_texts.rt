@@ -1,14 +1,10 @@
-ghost use Rattle.std.specs.Prelude.{◌≤◌, OnOk, length};
-
-use crate::sheet::Sheet;
+use crate::words::deep;
 use fcp_model::{Names, NoMemory};
 use heap_words::{Trail, Words};
 use std::alloc::Global;
 use std::test::Fail;
+use word_sheets::Sheet;
 use word_texts::{TextLists, value_text};
-
-/// The words of a test stand below this address.
-const MOST: usize = 4_000_000;
 
 // The words of the tests: 16 times what the cell says, and the tag of its kind. A small number is raised by 2^55. `OF_` is a
 // reference and `RO_` a read-only one, to an unbound place or to one that is bound.
@@ -87,25 +83,11 @@ const RAW_2: u64 = 0x2a;
 
 const RAW_3: u64 = 0x3a;
 
-fn put(sheet: &mut Sheet, word: u64) -> Result<(), NoMemory>
-    ensures { OnOk result (length sheet.new.words.items ≤ 4000000) }
-{
-    if sheet.words.len() >= MOST {
-        return Err(NoMemory);
-    }
-    match sheet.words.push(word) {
-        Ok(()) => Ok(()),
-        Err(_) => Err(NoMemory),
-    }
-}
-
 /// A sheet with two unbound places, two bound ones, and some terms.
 fn sheet(alloc: Global) -> Result<Sheet, NoMemory> {
-    let mut sheet = Sheet {
-        words: Vec::new(alloc),
-    };
+    let mut sheet = Sheet::make(alloc);
     for _ in 0..1300 {
-        put(&mut sheet, 0)?;
+        sheet.put(0)?;
     }
     for (at, word) in [
         (1, NAME_3_5),
@@ -173,7 +155,7 @@ fn text_at<W: Words>(
     Ok(out)
 }
 
-/// The text of a word over a sheet, at whose end it is put. Words past the room of a test are as want of memory.
+/// The text of a word over a sheet, at whose end it is put.
 fn text_of(
     alloc: Global,
     lists: &mut TextLists,
@@ -182,12 +164,8 @@ fn text_of(
     word: u64,
     nodes: u32,
 ) -> Result<Vec<u8>, NoMemory> {
-    let at = sheet.words.len();
-    put(sheet, word)?;
-    if at >= MOST || at >= sheet.words.len() {
-        return Err(NoMemory);
-    }
-    text_at(alloc, lists, sheet, names, at as u32, nodes)
+    let at = sheet.put(word)?;
+    text_at(alloc, lists, sheet, names, at, nodes)
 }
 
 #[test]
@@ -239,35 +217,13 @@ fn values_have_their_texts(rt: HostRuntime) -> Result<(), Fail> {
     Ok(())
 }
 
-/// A term of so many pairs, each the first part of the next one.
-fn deep(sheet: &mut Sheet, pairs: u32) -> Result<u64, NoMemory> {
-    let mut last = NIL;
-    for _ in 0..pairs {
-        if sheet.words.len() % 256 == 0 {
-            for _ in 0..130 {
-                put(sheet, NIL)?;
-            }
-        }
-        let at = sheet.words.len();
-        put(sheet, last)?;
-        put(sheet, NIL)?;
-        if at >= MOST {
-            return Err(NoMemory);
-        }
-        last = 16 * at as u64 + 7;
-    }
-    Ok(last)
-}
-
 #[test]
 fn a_deep_term_has_its_text(rt: HostRuntime) -> Result<(), Fail> {
     let mut lists = TextLists::make(rt.alloc());
     let names = Names::make(rt.alloc())?;
-    let mut sheet = Sheet {
-        words: Vec::new(rt.alloc()),
-    };
+    let mut sheet = Sheet::make(rt.alloc());
     for _ in 0..256 {
-        put(&mut sheet, NIL)?;
+        sheet.put(NIL)?;
     }
     let word = deep(&mut sheet, 100_000)?;
     let cut = text_of(rt.alloc(), &mut lists, &mut sheet, &names, word, 3)?;
