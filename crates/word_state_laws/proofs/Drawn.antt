@@ -71,30 +71,18 @@ among_cells b (d ∷ ds) a x c ok (inl q) e =
     inl (ap (λ (z : ℕ × ℕ). z.0) q, same_Some d c (sym (decoded_encoded d ok.0) ∙ ap decoded k ∙ e))
 among_cells b (d ∷ ds) a x c ok (inr h) e = inr (among_cells (suc b) ds a x c ok.1 h e)
 
+entry_ok : AreCells (Raw 3 ∷ Small (pos 1) ∷ Nil ∷ [])
+entry_ok = (omega arith, (small_ok 1 (omega arith), (tt, tt)))
+
+second_ok : AreCells (cell.Status stand.Ready ∷ Small (pos 2) ∷ Raw 1 ∷ Raw 1 ∷ Ref 2 ∷ Raw 3 ∷ Small (pos 1) ∷ Nil ∷ [])
+second_ok = (tt, (small_ok 2 (omega arith), (omega arith, (omega arith, (omega arith, entry_ok)))))
+
 all_ok : AreCells drawn_cells
 all_ok = (
   omega arith,
   (
     small_ok 1 (omega arith),
-    (
-      omega arith,
-      (
-        omega arith,
-        (
-          small_ok 1 (omega arith),
-          (
-            omega arith,
-            (
-              omega arith,
-              (
-                omega arith,
-                (tt, (small_ok 2 (omega arith), (omega arith, (omega arith, (omega arith, (omega arith, (small_ok 1 (omega arith), (tt, tt)))))))),
-              ),
-            ),
-          ),
-        ),
-      ),
-    ),
+    (omega arith, (omega arith, (small_ok 1 (omega arith), (omega arith, (omega arith, (omega arith, second_ok)))))),
   ),
 )
 
