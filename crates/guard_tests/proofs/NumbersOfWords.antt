@@ -9,7 +9,8 @@ use Rattle.heap_words.specs.Trails.{Memory}
 use Rattle.heap_words.specs.declared.cell.Cell.{Cell}
 use Rattle.heap_words.specs.declared.cell.Cell.TheVariants as cell
 use Rattle.heap_words.proofs.Encodings.{encoded_decoded}
-use Rattle.unify_terms.specs.Denotes.{bits, low_bits, IsLong, NumberIn, IsNumber}
+use Rattle.unify_terms.specs.Denotes.{NumberIn, IsNumber}
+use Rattle.word_states.specs.Numbers.{bits, low_bits, IsLong}
 use Rattle.guard_tests.specs.declared.number.Evaluated.TheVariants.{Value}
 use Rattle.guard_tests.specs.Numbers.{signed_byte, wide_number, number_of}
 

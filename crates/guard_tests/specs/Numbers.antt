@@ -4,7 +4,7 @@ use Rattle.heap_words.specs.Cells.{decoded}
 use Rattle.heap_words.specs.Trails.{Memory}
 use Rattle.heap_words.specs.declared.cell.Cell.{Cell}
 use Rattle.heap_words.specs.declared.cell.Cell.TheVariants as cell
-use Rattle.unify_terms.specs.Denotes.{low_bits}
+use Rattle.word_states.specs.Numbers.{low_bits}
 use Rattle.fcp_model.specs.Expressions as terms
 use Rattle.fcp_model.specs.Expressions.{gives, bad, unready}
 use Rattle.ro_unify.specs.declared.look.Look.{Look}

@@ -3,7 +3,7 @@ ghost use Rattle.std.specs.Prelude.{◌≡◌, pos, IfOk, OnOk};
 ghost use Rattle.heap_words.specs.Cells.{decoded, IsCell};
 ghost use Rattle.heap_words.specs.Trails.{Holds, KeepsLoads, Says};
 ghost use Rattle.ro_unify.specs.Value.{look_word};
-ghost use Rattle.unify_terms.specs.Denotes.{low_bits};
+ghost use Rattle.word_states.specs.Numbers.{low_bits};
 ghost use Rattle.guard_tests.specs.Numbers.{signed_byte, joined, wide_number, number_of, number_at};
 
 use fcp_model::NoMemory;

@@ -15,7 +15,8 @@ use Rattle.ro_unify.specs.Value.{Values, leads_on}
 use Rattle.ro_unify.specs.Occurs.{whole_of, count_of}
 use Rattle.heap_words.specs.Refers.{parts}
 use Rattle.ro_unify.proofs.Chains.{value_no_ref}
-use Rattle.unify_terms.specs.Denotes.{Naming, Denotes, DenotesAll, Stands, LookIs, value_as, NumberIn, IsLong, bits, size_of}
+use Rattle.unify_terms.specs.Denotes.{Naming, Denotes, DenotesAll, Stands, LookIs, value_as, NumberIn}
+use Rattle.word_states.specs.Numbers.{IsLong, bits, part_count}
 use Rattle.unify_terms.proofs.ValuesOfWords.{values_so}
 use Rattle.fcp_model.specs.declared.run.Place.{Place}
 use Rattle.fcp_model.specs.declared.names.Sym.{Sym}
@@ -319,17 +320,17 @@ module _ (p : Naming) (bs : WordList) (m : Memory) (s : Bindings) (names : List 
   pub record IsTuple (v : terms.Look) (a : ℕ) : Type 0 where
     pub parts : Terms Variable
     pub is : v ≡ solid (tuple parts)
-    pub count : count_at m a ≡ size_of parts
+    pub count : count_at m a ≡ part_count parts
     pub parts_are : DenotesAll p m parts a
 
   tuple_at : (x a : ℕ) (ts : Terms Variable) (d : Denotes p m (tuple ts) x) → d.0 ≡ a → IsTuple (solid (tuple ts)) a
   tuple_at x a ts d k =
-      let small : size_of ts < 66 = d.3 in
-      let here : decoded (m a) ≡ Some (cell.Raw (size_of ts)) = ap (λ (b : ℕ). decoded (m b)) (sym k) ∙ d.2 in
+      let small : part_count ts < 66 = d.3 in
+      let here : decoded (m a) ≡ Some (cell.Raw (part_count ts)) = ap (λ (b : ℕ). decoded (m b)) (sym k) ∙ d.2 in
       record {
         parts = ts;
         is = refl;
-        count = ap count_of here ∙ few_parts (size_of ts) small;
+        count = ap count_of here ∙ few_parts (part_count ts) small;
         parts_are = subst (λ (b : ℕ). DenotesAll p m ts b) k d.4;
       }
     where

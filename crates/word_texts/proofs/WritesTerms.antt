@@ -6,7 +6,8 @@ use Rattle.heap_words.specs.Trails.{WordList, Memory}
 use Rattle.ro_unify.specs.declared.look.Look.{Look}
 use Rattle.ro_unify.specs.declared.occurrence.Whole.TheVariants as whole
 use Rattle.ro_unify.specs.Value.{Values}
-use Rattle.unify_terms.specs.Denotes.{Naming, Denotes, DenotesAll, Stands, size_of}
+use Rattle.unify_terms.specs.Denotes.{Naming, Denotes, DenotesAll, Stands}
+use Rattle.word_states.specs.Numbers.{part_count}
 use Rattle.fcp_model.specs.declared.names.Sym.{Sym}
 use Rattle.fcp_model.specs.Places.{Variable}
 use Rattle.fcp_model.specs.Terms.{Term, cons, tuple, Terms, none, more, Bindings}
@@ -45,7 +46,7 @@ module _ (p : Naming) (m : Memory) where
   abbrev pub IsPart : Part → Item → Type 0
   IsPart q (item.Term w) = (t : Term Variable) × (q ≡ term t) × Denotes p m t w
   IsPart q (item.Rest w) = (t : Term Variable) × (q ≡ rest t) × Denotes p m t w
-  IsPart q (item.Parts a n) = (ts : Terms Variable) × (q ≡ others ts) × (n ≡ size_of ts) × DenotesAll p m ts a
+  IsPart q (item.Parts a n) = (ts : Terms Variable) × (q ≡ others ts) × (n ≡ part_count ts) × DenotesAll p m ts a
   IsPart q (item.Close b) = q ≡ given.closes b
 
   abbrev pub AreParts : List Part → List Item → Type 0
@@ -59,15 +60,15 @@ module _ (p : Naming) (m : Memory) where
   are_both [] rs (i ∷ is) js h e = absurd h
   are_both (q ∷ qs) rs [] js h e = absurd h
 
-  are_parts : (ts : Terms Variable) (a : ℕ) → DenotesAll p m ts a → AreParts (parts_of ts) (part_items m a (size_of ts))
+  are_parts : (ts : Terms Variable) (a : ℕ) → DenotesAll p m ts a → AreParts (parts_of ts) (part_items m a (part_count ts))
   are_parts none a d = tt
   are_parts (more t ts) a d = ((t, refl, d.0), ((ts, refl, refl, d.1), tt))
 
-  closed_parts : (ts : Terms Variable) (a n : ℕ) (b : Bracket) → n ≡ size_of ts → DenotesAll p m ts a
+  closed_parts : (ts : Terms Variable) (a n : ℕ) (b : Bracket) → n ≡ part_count ts → DenotesAll p m ts a
       → AreParts (parts_of ts ++ given.closes b ∷ []) (part_items m a n ++ item.Close b ∷ [])
   closed_parts ts a n b e d =
       subst (λ (k : ℕ). AreParts (parts_of ts ++ given.closes b ∷ []) (part_items m a k ++ item.Close b ∷ [])) (sym e)
-      (are_both (parts_of ts) (given.closes b ∷ []) (part_items m a (size_of ts)) (item.Close b ∷ []) (are_parts ts a d) (refl, tt))
+      (are_both (parts_of ts) (given.closes b ∷ []) (part_items m a (part_count ts)) (item.Close b ∷ []) (are_parts ts a d) (refl, tt))
 
 module _ (p : Naming) (bs : WordList) (m : Memory) (s : Bindings) (names : List Bytes) (labels : Labels p m)
     (stands : Stands p m bs s) where
@@ -159,11 +160,11 @@ module _ (p : Naming) (bs : WordList) (m : Memory) (s : Bindings) (names : List 
             ∙ ap (option_map (λ (y : Sym). y.0)) e),
       )
 
-  no_string : (k a n : ℕ) (ts : Terms Variable) → Functor bs m k n a None → n ≡ size_of ts → DenotesAll p m ts a
+  no_string : (k a n : ℕ) (ts : Terms Variable) → Functor bs m k n a None → n ≡ part_count ts → DenotesAll p m ts a
       → (h u : Term Variable) (us : Terms Variable) → ts ≡ more h (more u us) → 0 < k
       → (c : ℕ) × ((i : ℕ) → c ≤ i → string_of (value i s h) ≡ None)
   no_string k a n ts (few o e) z d h u us q lt =
-      let size : size_of ts ≡ suc (suc (size_of us)) = ap size_of q in
+      let size : part_count ts ≡ suc (suc (part_count us)) = ap part_count q in
       absurd (⊎_elim (λ i. omega arith) (λ i. omega arith) o)
   no_string k a n ts (first l lt' more' v e) z d h u us q lt =
       let dd : DenotesAll p m (more h (more u us)) a = subst (λ (y : Terms Variable). DenotesAll p m y a) q d in
@@ -189,14 +190,14 @@ module _ (p : Naming) (bs : WordList) (m : Memory) (s : Bindings) (names : List 
 
   round_comes : (k w a n : ℕ) (l : Look) (t : Term Variable) (c : Sym) (ts : Terms Variable) (b : ℕ)
       → HasValue names s t (solid (tuple ts)) b
-      → n ≡ size_of ts → DenotesAll p m ts a → Functor bs m k n a (Some c)
+      → n ≡ part_count ts → DenotesAll p m ts a → Functor bs m k n a (Some c)
       → Comes (suc k) (term t) (string_text (name_at names c.0) ++ codes "(") (k - 1) (behind_round a n)
   round_comes k w a n l t c ts b v z d (few o e) = cc
   round_comes k w a n l t c none b v z d (first l2 lt two v2 e) = absurd (omega arith)
   round_comes k w a n l t c (more h none) b v z d (first l2 lt two v2 e) = absurd (omega arith)
   round_comes k w a n l t c (more h (more u us)) b v z d (first l2 lt two v2 e) =
       let f = first_string (m (a + 1)) l2 h (Some c) v2 d.0 e in
-      let less : n - 1 ≡ size_of (more u us) = omega arith in
+      let less : n - 1 ≡ part_count (more u us) = omega arith in
       subst (λ (y : ℕ). Comes (suc y) (term t) (string_text (name_at names c.0) ++ codes "(") (k - 1) (behind_round a n))
       (one_less k lt)
       (record {
@@ -215,11 +216,11 @@ module _ (p : Naming) (bs : WordList) (m : Memory) (s : Bindings) (names : List 
       round_comes k w a (count_at m a) l t c r.parts g.steps (has t l g (solid (tuple r.parts)) r.is) r.count r.parts_are f
 
   -- parts that follow
-  none_comes : (k a n : ℕ) (ts : Terms Variable) → n ≡ 0 → n ≡ size_of ts → Comes k (others ts) [] k []
+  none_comes : (k a n : ℕ) (ts : Terms Variable) → n ≡ 0 → n ≡ part_count ts → Comes k (others ts) [] k []
   none_comes k a n none e z = no_parts k (others none) [] k (none_gives names s k) (none_back names s k)
   none_comes k a n (more t ts) e z = absurd (omega arith)
 
-  more_comes : (k a n : ℕ) (ts : Terms Variable) → 0 < n → n ≡ size_of ts → DenotesAll p m ts a
+  more_comes : (k a n : ℕ) (ts : Terms Variable) → 0 < n → n ≡ part_count ts → DenotesAll p m ts a
       → Comes k (others ts) (codes ",") k (part_items m a n)
   more_comes k a n none e z d = absurd (omega arith)
   more_comes k a n (more t ts) e z d = record {

@@ -7,7 +7,7 @@ use Rattle.heap_words.specs.declared.cell.Cell.{Cell}
 use Rattle.heap_words.specs.declared.cell.Cell.TheVariants as cell
 use Rattle.ro_unify.specs.declared.look.Look.{Look}
 use Rattle.ro_unify.specs.declared.look.Look.TheVariants.{Writable, ReadOnly, Solid}
-use Rattle.unify_terms.specs.Denotes.{low_bits}
+use Rattle.word_states.specs.Numbers.{low_bits}
 use Rattle.fcp_model.specs.declared.run.Place.{Place}
 use Rattle.fcp_model.specs.Places.{place}
 use Rattle.fcp_model.specs.Spelling.{Bytes, string_text, name_at, place_text}

@@ -4,7 +4,7 @@ ghost use Rattle.std.specs.Fmt.{signed_decimal};
 ghost use Rattle.heap_words.specs.Cells.{decoded};
 ghost use Rattle.heap_words.specs.Trails.{Holds, KeepsLoads, Says};
 ghost use Rattle.ro_unify.specs.Value.{look_word};
-ghost use Rattle.unify_terms.specs.Denotes.{low_bits};
+ghost use Rattle.word_states.specs.Numbers.{low_bits};
 ghost use Rattle.word_texts.specs.Leaves.{place_named, place_of, signed, long_number, leaf_of, solid_text, open_text, look_text};
 
 use fcp_model::spelling::{Decimal, push_bytes, push_place, push_string};
