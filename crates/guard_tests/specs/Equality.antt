@@ -21,7 +21,7 @@ abbrev pub same_place : Option ℕ → Option ℕ → Comparison
 same_place (Some p) (Some q) = if nat_eq p q then parts [] else waits
 same_place _ _ = waits
 
--- two words that are no places
+-- two words that are no places, by the pairs of their parts
 abbrev pub by_parts : Option (List (ℕ × ℕ)) → Comparison
 by_parts None = differ
 by_parts (Some qs) = parts qs

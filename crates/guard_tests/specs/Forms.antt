@@ -51,6 +51,7 @@ abbrev pub operand_of : List ExprStep → ℕ
 operand_of (Push w ∷ []) = w
 operand_of _ = 6
 
+-- the answer for a yes or a no
 abbrev pub truth : Bool → Tested
 truth b = if b then Holds else Not
 

@@ -41,12 +41,13 @@ test_answer (holds vs) = Holds
 test_answer (fails vs) = Not
 test_answer (pauses vs) = Wait
 
--- the variables that a test read unbound, and those that an expression did
+-- the variables that a test read unbound
 abbrev pub tested_reads : tests.Tested → List Variable
 tested_reads (holds vs) = vs
 tested_reads (fails vs) = vs
 tested_reads (pauses vs) = vs
 
+-- and those that an expression did
 abbrev pub evaluated_reads : terms.Evaluated → List Variable
 evaluated_reads (gives z) = []
 evaluated_reads bad = []
@@ -76,7 +77,7 @@ module _ (p : Naming) (m : Memory) where
   ArePlaces (a ∷ as') (v ∷ vs) = IsPlace p m a v × ArePlaces as' vs
   ArePlaces _ _ = ⊥
 
-  -- the reads grew by the places of these variables, in this order, which are unbound
+  -- the reads grew by the places of these variables, in this order; they are unbound
   pub record Reads (bs : WordList) (rs : List ℕ) (vs : List Variable) (rs' : List ℕ) : Type 0 where
     pub more : List ℕ
     pub read : rs' ≡ rs ++ more

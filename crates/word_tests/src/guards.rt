@@ -349,23 +349,54 @@ fn each_edge_of_an_expression(rt: HostRuntime) -> Result<(), Fail> {
     Ok(())
 }
 
-/// Two equal terms of so many pairs, each the first part of the next one.
-fn deep_answer(alloc: Global) -> Result<Tested, NoMemory> {
+/// Whether two words are the same terms, by `==`.
+fn equality(alloc: Global, sheet: &mut Sheet, left: u64, right: u64) -> Result<Tested, NoMemory> {
     let mut lists = TestLists::make(alloc);
-    let mut sheet = Sheet::make(alloc);
-    for _ in 0..256 {
-        sheet.put(NIL)?;
-    }
-    let left = deep(&mut sheet, 100_000)?;
-    let right = deep(&mut sheet, 100_000)?;
     let first = sheet.put(left)?;
     let second = sheet.put(right)?;
-    let (found, _trail) = test_both(alloc, &mut lists, &mut sheet, TestKind::Same, first, second)?;
+    let (found, _trail) = test_both(alloc, &mut lists, sheet, TestKind::Same, first, second)?;
     Ok(found)
 }
 
+/// A sheet on which terms can begin.
+fn blank(alloc: Global) -> Result<Sheet, NoMemory> {
+    let mut sheet = Sheet::make(alloc);
+    for _ in 0..130 {
+        sheet.put(NIL)?;
+    }
+    Ok(sheet)
+}
+
+/// The comparison of two terms of 100,000 pairs, each the first part of the next one.
+fn deep_answer(alloc: Global) -> Result<Tested, NoMemory> {
+    let mut sheet = blank(alloc)?;
+    let left = deep(&mut sheet, 100_000)?;
+    let right = deep(&mut sheet, 100_000)?;
+    equality(alloc, &mut sheet, left, right)
+}
+
+/// A pair whose two parts are one pair, and so on, so many times.
+fn doubled(sheet: &mut Sheet, times: u32) -> Result<u64, NoMemory> {
+    let mut last = NIL;
+    for _ in 0..times {
+        let at = sheet.put(last)?;
+        sheet.put(last)?;
+        last = 16 * at as u64 + 7;
+    }
+    Ok(last)
+}
+
+/// The comparison of two terms that were doubled 18 times.
+fn doubled_answer(alloc: Global) -> Result<Tested, NoMemory> {
+    let mut sheet = blank(alloc)?;
+    let left = doubled(&mut sheet, 18)?;
+    let right = doubled(&mut sheet, 18)?;
+    equality(alloc, &mut sheet, left, right)
+}
+
 #[test]
-fn deep_terms_are_compared(rt: HostRuntime) -> Result<(), Fail> {
+fn deep_and_shared_terms_are_compared(rt: HostRuntime) -> Result<(), Fail> {
     assert_eq!(rt; deep_answer(rt.alloc())?, Tested::Holds);
+    assert_eq!(rt; doubled_answer(rt.alloc())?, Tested::Holds);
     Ok(())
 }
