@@ -3,7 +3,7 @@ use Rattle.std.proofs.Common.{◌≡◌, ℕ, suc, ◌+◌, ◌<◌, ◌≤◌, 
 use Rattle.std.specs.Prelude.{slice_get, option_map}
 use Rattle.std.proofs.Math.Seq.{drop-cons}
 use Rattle.std.proofs.lemmas.List.{map_push, length-map}
-use Rattle.std.proofs.lemmas.Option.{slice_get_within, get_or_from_slice_get}
+use Rattle.std.proofs.lemmas.Option.{slice_get-map, slice_get_within, get_or_from_slice_get}
 use Rattle.fcp_model.specs.declared.goal.TheConstants.{TRUE_PROCEDURE}
 use Rattle.fcp_model.specs.declared.source.Module.{Module}
 use Rattle.fcp_model.specs.ProcedureNames.{procedure_names}
@@ -23,7 +23,6 @@ use Rattle.machine_code.specs.Fresh.{no_tops, IsFresh}
 use Rattle.machine_code.specs.Machine.{Compiled}
 use Rattle.clause_compiler.proofs.FreshClauses.{program_fresh}
 use Rattle.head_code.proofs.PutLoops.{Remains, all_remains, remains_as, fewer_remain, none_remains}
-use Rattle.clause_compiler.proofs.ProcedureLoops.{slice_get_mapped}
 use Rattle.machine_code.specs.Targets.{AllLeadBehind}
 use Rattle.clause_compiler.proofs.ModulePrograms.{module_source, module_means}
 use Rattle.clause_compiler.proofs.Targets.{procedures_behind}
@@ -50,7 +49,7 @@ procedures_next m a b c es es' x n eh ef ex ee bc left =
     let P = program_of m in
     let d = procedure_of hs m.clauses x.name in
     let found : slice_get P n ≡ Some d =
-    slice_get_mapped (procedure_of hs m.clauses) hs n ∙ ap (option_map (procedure_of hs m.clauses)) eh in
+    slice_get-map (procedure_of hs m.clauses) hs n ∙ ap (option_map (procedure_of hs m.clauses)) eh in
     let within : n < length P = slice_get_within P n d found in
     let next : suc n ≡ n + 1 = omega arith in
     let cut : drop n P ≡ d ∷ drop (n + 1) P = drop-cons P n d within ∙ (λ j. get_or_from_slice_get P n d d found j ∷ drop (next j) P) in

@@ -1,6 +1,6 @@
 -- The code of heads binds fresh variables: what the goal's side has brought into slots has no top, and no variable is released above
 -- those met so far.
-use Rattle.std.proofs.Common.{◌≡◌, ℕ, suc, ◌+◌, ◌<◌, ◌≤◌, Bool, true, false, List, [], ◌∷◌, ◌++◌, length, refl, sym, ap, ◌∙◌, subst, length-append, arith}
+use Rattle.std.proofs.Common.{◌≡◌, ℕ, suc, ◌+◌, ◌<◌, ◌≤◌, Bool, true, false, List, [], ◌∷◌, ◌++◌, length, refl, ◌∙◌, subst, length-append, arith}
 use Rattle.std.specs.Prelude.{max, nat_lt, if◌then◌else◌}
 use Rattle.std.proofs.Math.Nat.{le-max_left, le-max_right, max-le}
 use Rattle.std.proofs.lemmas.Bool.{ltb-true}
@@ -8,14 +8,14 @@ use Rattle.fcp_model.specs.Terms.{Term, number, string, nil, cons, tuple, var, r
 use Rattle.fcp_model.specs.HeadPairs.{mark, marks}
 use Rattle.machine_code.specs.Instructions.{Op, GetFirst, GetCons, GetTuple, Unify, Jump}
 use Rattle.machine_code.specs.Machine.{count}
-use Rattle.machine_code.specs.Fresh.{Tops, topped, all_topped, FreshFor, IsFresh}
+use Rattle.machine_code.specs.Fresh.{Tops, topped, all_topped, IsFresh}
 use Rattle.machine_code.proofs.Standing.{HasAt, has_front, has_back}
 use Rattle.machine_code.proofs.Fresh.{fresh_at, top_here, top_other, all_tops_here, all_tops_other}
 use Rattle.machine_code.specs.Each.{Each}
 use Rattle.head_code.specs.SourceTerms.{IsSourceTerm, AreSourceTerms}
 use Rattle.head_code.specs.TermCode.{width, widths, put}
 use Rattle.head_code.specs.HeadCode.{Stock, unmade, made, left_stock, right_stock, part_stock, next_stock, ask, joined, between, get, gets, is_stocked, argument_code, head_code}
-use Rattle.head_code.proofs.FreshPuts.{greatest, greatests, Holds, HoldAll, holds_here, holds_on, hold_all_on, max_of_both, moved, put_fresh}
+use Rattle.head_code.proofs.FreshPuts.{greatest, greatests, Holds, HoldAll, holds_here, holds_on, hold_all_on, moved, put_fresh}
 
 -- marking meets all variables of a term
 mutual

@@ -1,10 +1,10 @@
 -- Fresh first occurrences: one instruction, and tops that were set.
-use Rattle.std.proofs.Common.{◌≡◌, ℕ, zero, suc, ◌+◌, ◌<◌, ◌≤◌, Bool, true, false, cond, List, [], ◌∷◌, length, Option, Some, None, refl, sym, ap, ◌∙◌, subst, arith}
+use Rattle.std.proofs.Common.{◌≡◌, ℕ, zero, suc, ◌+◌, ◌<◌, ◌≤◌, Bool, true, false, cond, List, length, Some, refl, sym, ap, ◌∙◌, subst, arith}
 use Rattle.std.specs.Prelude.{slice_get, nat_eq}
 use Rattle.std.proofs.lemmas.Bool.{eq-eqb, ne_eqb, eqb-true, eqb-false}
 use Rattle.std.proofs.lemmas.Option.{slice_get_past}
 use Rattle.machine_code.specs.Instructions.{Op}
-use Rattle.machine_code.specs.Fresh.{Tops, topped, all_topped, Go, FreshAt, FreshFor, IsFresh}
+use Rattle.machine_code.specs.Fresh.{Tops, topped, all_topped, FreshAt, FreshFor, IsFresh}
 
 -- an instruction, whatever may be so of those that come next
 pub fresh_at : (code : List Op) (at : ℕ) (τ : Tops) (r : ℕ) (o : Op) → slice_get code at ≡ Some o

@@ -6,5 +6,6 @@ pub mod Held
 pub mod Opening
 pub mod Same
 pub mod SlotBounds
+pub mod SoundCode
 pub mod Standing
 pub mod Tables
