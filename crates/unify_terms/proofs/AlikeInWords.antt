@@ -18,7 +18,8 @@ use Rattle.fcp_model.specs.Terms.{Term, number, string, nil, cons, tuple, var, r
 use Rattle.fcp_model.specs.Pair.{Pair, both_parts}
 use Rattle.fcp_model.specs.Pair as pairs
 use Rattle.unify_terms.proofs.NumbersInWords.{same_numbers, differ, one_word}
-use Rattle.unify_terms.specs.Denotes.{Naming, Denotes, DenotesAll, DenotesPairs, Names, NumberIn, size_of}
+use Rattle.unify_terms.specs.Denotes.{Naming, Denotes, DenotesAll, DenotesPairs, Names, NumberIn}
+use Rattle.word_states.specs.Numbers.{part_count}
 
 -- two words that are no two wide numbers are the same atom where they are the same word
 not_wide : (m : Memory) (x y : ℕ) (o : Option (ℕ × ℕ)) → same_wides m x y o None ≡ nat_eq x y
@@ -90,20 +91,20 @@ module _ (p : Naming) (m : Memory) (names : Names p m) where
   number_no_nil c z e f = subst (λ (d : Cell). NumberIn m d z) f e
 
   -- the parts of two tuples
-  sizes_parts : (ts us : Terms Variable) (a b : ℕ) → size_of ts ≡ size_of us → DenotesAll p m ts a → DenotesAll p m us b
-      → SameAlike p m (Some (pairs_after m a b (size_of ts))) (both_parts ts us)
+  sizes_parts : (ts us : Terms Variable) (a b : ℕ) → part_count ts ≡ part_count us → DenotesAll p m ts a → DenotesAll p m us b
+      → SameAlike p m (Some (pairs_after m a b (part_count ts))) (both_parts ts us)
   sizes_parts none none a b e d f = both [] [] tt
-  sizes_parts none (more u us) a b e d f = absurd (let h : 0 ≡ suc (size_of us) = e in omega arith)
-  sizes_parts (more t ts) none a b e d f = absurd (let h : suc (size_of ts) ≡ 0 = e in omega arith)
+  sizes_parts none (more u us) a b e d f = absurd (let h : 0 ≡ suc (part_count us) = e in omega arith)
+  sizes_parts (more t ts) none a b e d f = absurd (let h : suc (part_count ts) ≡ 0 = e in omega arith)
   sizes_parts (more t ts) (more u us) a b e d f =
-      go (both_parts ts us) (sizes_parts ts us (a + 1) (b + 1) (let h : suc (size_of ts) ≡ suc (size_of us) = e in omega arith) d.1 f.1)
+      go (both_parts ts us) (sizes_parts ts us (a + 1) (b + 1) (let h : suc (part_count ts) ≡ suc (part_count us) = e in omega arith) d.1 f.1)
     where
-      go : (o : Option (List Pair)) → SameAlike p m (Some (pairs_after m (a + 1) (b + 1) (size_of ts))) o → SameAlike p m
-          (Some ((m (a + 1), m (b + 1)) ∷ pairs_after m (a + 1) (b + 1) (size_of ts)))
+      go : (o : Option (List Pair)) → SameAlike p m (Some (pairs_after m (a + 1) (b + 1) (part_count ts))) o → SameAlike p m
+          (Some ((m (a + 1), m (b + 1)) ∷ pairs_after m (a + 1) (b + 1) (part_count ts)))
           (elim o [ None ↦ None | Some ps ↦ Some ((t, u) ∷ ps) ])
       go _ (both qs ps g) = both ((m (a + 1), m (b + 1)) ∷ qs) ((t, u) ∷ ps) (d.0, f.0, g)
 
-  sizes_differ : (ts us : Terms Variable) → (size_of ts ≡ size_of us → ⊥) → both_parts ts us ≡ None
+  sizes_differ : (ts us : Terms Variable) → (part_count ts ≡ part_count us → ⊥) → both_parts ts us ≡ None
   sizes_differ none none n = absurd (n refl)
   sizes_differ none (more u us) n = refl
   sizes_differ (more t ts) none n = refl
@@ -121,8 +122,8 @@ module _ (p : Naming) (m : Memory) (names : Names p m) where
       (ap whole_of f.1)))
       (go (nat_eq (m d.0) (m f.0)) refl)
     where
-      n : count_of (decoded (m d.0)) ≡ size_of ts
-      n = ap count_of d.2 ∙ small (size_of ts) d.3
+      n : count_of (decoded (m d.0)) ≡ part_count ts
+      n = ap count_of d.2 ∙ small (part_count ts) d.3
 
       raw_size : (k l : ℕ) → cell.Raw k ≡ cell.Raw l → k ≡ l
       raw_size k l e = cc
@@ -130,13 +131,13 @@ module _ (p : Naming) (m : Memory) (names : Names p m) where
       go : (t : Bool) → nat_eq (m d.0) (m f.0) ≡ t
           → SameAlike p m (cond t (Some (pairs_after m d.0 f.0 (count_of (decoded (m d.0))))) None) (both_parts ts us)
       go true i =
-          let h : Some (cell.Raw (size_of ts)) ≡ Some (cell.Raw (size_of us)) = sym d.2 ∙ (ap decoded (eqb-true (m d.0) (m f.0) i) ∙ f.2) in
-          let k : cell.Raw (size_of ts) ≡ cell.Raw (size_of us) = cc in
+          let h : Some (cell.Raw (part_count ts)) ≡ Some (cell.Raw (part_count us)) = sym d.2 ∙ (ap decoded (eqb-true (m d.0) (m f.0) i) ∙ f.2) in
+          let k : cell.Raw (part_count ts) ≡ cell.Raw (part_count us) = cc in
           subst (λ (c : ℕ). SameAlike p m (Some (pairs_after m d.0 f.0 c)) (both_parts ts us)) (sym n)
-          (sizes_parts ts us d.0 f.0 (raw_size (size_of ts) (size_of us) k) d.4 f.4)
+          (sizes_parts ts us d.0 f.0 (raw_size (part_count ts) (part_count us) k) d.4 f.4)
       go false i = subst (SameAlike p m None)
           (sym (sizes_differ ts us
-          (λ e. let h = one_word (m d.0) (m f.0) (cell.Raw (size_of ts)) d.2
+          (λ e. let h = one_word (m d.0) (m f.0) (cell.Raw (part_count ts)) d.2
           (f.2 ∙ ap (λ (k : ℕ). Some (cell.Raw k)) (sym e)) in let k : true ≡ false = sym (eq-eqb (m d.0) (m f.0) h) ∙ i in cc)))
           neither
 

@@ -12,7 +12,8 @@ use Rattle.heap_words.specs.declared.cell.Cell.{Cell}
 use Rattle.heap_words.specs.declared.cell.Cell.TheVariants as cell
 use Rattle.heap_words.proofs.Encodings.{encoded_decoded}
 use Rattle.ro_unify.specs.Alike.{same_atoms, same_wides, wide_of}
-use Rattle.unify_terms.specs.Denotes.{bits, low_bits, IsLong, NumberIn, IsNumber}
+use Rattle.word_states.specs.Numbers.{bits, low_bits, IsLong}
+use Rattle.unify_terms.specs.Denotes.{NumberIn, IsNumber}
 
 -- words of two cells differ, and a cell has one word
 pub differ : (x y : ℕ) (c d : Cell) → decoded x ≡ Some c → decoded y ≡ Some d → (c ≡ d → ⊥) → nat_eq x y ≡ false

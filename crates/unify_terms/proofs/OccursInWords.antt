@@ -22,7 +22,8 @@ use Rattle.fcp_model.specs.Terms.{Term, number, string, nil, cons, tuple, var, r
 use Rattle.fcp_model.specs.Occurs.{Found, then_found, or_else, found, walk, walks, behind_leaf, leaf_is, occurs}
 use Rattle.fcp_model.specs.Occurs as terms
 use Rattle.fcp_model.proofs.MoreSteps.{Refines, at_least, occurs_more}
-use Rattle.unify_terms.specs.Denotes.{Naming, Denotes, DenotesAll, DenotesList, Stands, Names, NumberIn, size_of}
+use Rattle.unify_terms.specs.Denotes.{Naming, Denotes, DenotesAll, DenotesList, Stands, Names, NumberIn}
+use Rattle.word_states.specs.Numbers.{part_count}
 use Rattle.unify_terms.proofs.ValuesOfWords.{no_place, bound_on, solid_end, solid_on}
 
 -- one list of terms behind another
@@ -87,7 +88,7 @@ module _ (p : Naming) (bs : WordList) (m : Memory) (s : Bindings) (stands : Stan
   walk_parts lf _ (solid_tuple ts) = refl
 
   -- words behind an address, in a list
-  all_list : (ts : Terms Variable) (a : ℕ) → DenotesAll p m ts a → DenotesList p m ts (words_after m a (size_of ts))
+  all_list : (ts : Terms Variable) (a : ℕ) → DenotesAll p m ts a → DenotesList p m ts (words_after m a (part_count ts))
   all_list none a d = tt
   all_list (more t ts) a d = (d.0, all_list ts (a + 1) d.1)
 
@@ -114,7 +115,7 @@ module _ (p : Naming) (bs : WordList) (m : Memory) (s : Bindings) (stands : Stan
   parts_denoted _ x (solid_cons t u) d =
       subst (λ (w : Whole). DenotesList p m (more t (more u none)) (parts_of m w)) (sym (ap whole_of d.1)) (d.2, (d.3, tt))
   parts_denoted _ x (solid_tuple ts) d =
-      let n : count_of (decoded (m d.0)) ≡ size_of ts = ap count_of d.2 ∙ small (size_of ts) d.3 in
+      let n : count_of (decoded (m d.0)) ≡ part_count ts = ap count_of d.2 ∙ small (part_count ts) d.3 in
       subst (λ (w : Whole). DenotesList p m ts (parts_of m w)) (sym (ap whole_of d.1))
       (subst (λ (k : ℕ). DenotesList p m ts (words_after m d.0 k)) (sym n) (all_list ts d.0 d.4))
     where

@@ -1,5 +1,5 @@
 -- The terms for which words stand.
-use Rattle.std.specs.Prelude.{◌≡◌, ℕ, suc, ◌+◌, ◌-◌, ◌*◌, ◌<◌, Bool, true, false, ℤ, pos, negsuc}
+use Rattle.std.specs.Prelude.{◌≡◌, ℕ, ◌+◌, ◌-◌, ◌*◌, ◌<◌, Bool, true, false, ℤ}
 use Rattle.std.specs.Prelude.{List, [], ◌∷◌, ◌++◌, map, Option, Some, None, nat_eq}
 use Rattle.heap_words.specs.Cells.{decoded}
 use Rattle.heap_words.specs.Trails.{WordList, Memory, word_at}
@@ -17,31 +17,12 @@ use Rattle.fcp_model.specs.Unification as endings
 use Rattle.fcp_model.specs.Unification.{unify}
 use Rattle.ro_unify.specs.Unify as words
 use Rattle.fcp_model.specs.Pair.{Pair}
-
--- how many terms
-abbrev pub size_of : Terms Variable → ℕ
-size_of none = 0
-size_of (more t ts) = suc (size_of ts)
+use Rattle.word_states.specs.Numbers.{bits, low_bits, IsLong, part_count}
 
 -- which addresses are those of places, and what they are called
 pub record Naming : Type 0 where
   pub is_place : ℕ → Bool
   pub name : ℕ → Variable
-
--- the 64 bits of a number
-abbrev pub bits : ℤ → ℕ
-bits (pos n) = n
-bits (negsuc n) = 0x10000000000000000 - suc n
-
--- the lower 56 bits of a small number
-abbrev pub low_bits : ℤ → ℕ
-low_bits (pos n) = n
-low_bits (negsuc n) = 0x100000000000000 - suc n
-
--- a number of 64 bits that is no small one
-abbrev pub IsLong : ℤ → Type 0
-IsLong (pos n) = (0x7fffffffffffff < n) × (n < 0x8000000000000000)
-IsLong (negsuc n) = (0x7fffffffffffff < n) × (n < 0x8000000000000000)
 
 -- The number of a cell. One outside the range of small numbers has its upper eight bits in the cell, and the lower 56 as a small
 -- number at another address.
@@ -68,7 +49,7 @@ module _ (p : Naming) (m : Memory) where
     Denotes nil w = decoded w ≡ Some cell.Nil
     Denotes (cons t u) w = (a : ℕ) × (decoded w ≡ Some (cell.Cons a)) × Denotes t (m a) × Denotes u (m (a + 1))
     Denotes (tuple ts) w =
-        (a : ℕ) × (decoded w ≡ Some (cell.Tuple a)) × (decoded (m a) ≡ Some (cell.Raw (size_of ts))) × (size_of ts < 66) × DenotesAll ts a
+        (a : ℕ) × (decoded w ≡ Some (cell.Tuple a)) × (decoded (m a) ≡ Some (cell.Raw (part_count ts))) × (part_count ts < 66) × DenotesAll ts a
     Denotes (var v) w = (a : ℕ) × (decoded w ≡ Some (cell.Ref a)) × IsPlace a v
     Denotes (ro v) w = (a : ℕ) × (decoded w ≡ Some (cell.RoRef a)) × IsPlace a v
     Denotes (first k) w = ⊥

@@ -1,0 +1,13 @@
+pub mod Numbers
+pub mod Words
+pub mod Denoting
+pub mod Standing
+pub mod Pieces
+pub mod Led
+pub mod Tame
+pub mod Trials
+pub mod Waking
+pub mod Layouts
+pub mod Planning
+pub mod Effects
+pub mod Going
