@@ -1,2 +1,4 @@
 pub mod FirstFit
+pub mod PieceSizes
 pub mod Pages
+pub mod Laying

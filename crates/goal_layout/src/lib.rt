@@ -1,6 +1,7 @@
 //! A goal is laid into the pages of a new heap.
 #![tactic(auto)]
 
+mod numbers;
 mod pages;
 
-pub use pages::take;
+pub use numbers::lay_number;

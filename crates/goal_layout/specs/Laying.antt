@@ -1,0 +1,70 @@
+-- What laying a piece, a term or an expression does to the words.
+use Rattle.std.specs.Prelude.{◌≡◌, ◌⊎◌, ℕ, ◌*◌, ◌%◌, ◌≤◌, Bool, true, false, List, length, map, slice_get, Option, Some, nat_eq}
+use Rattle.fcp_model.specs.Places.{Variable, placed}
+use Rattle.fcp_model.specs.Terms.{Term, number, string, nil, cons, tuple, var, ro, first, Terms, none, more, rename}
+use Rattle.fcp_model.specs.Expressions.{Expr, leaf, op, rename_expr}
+use Rattle.fcp_model.specs.States.{count_up}
+use Rattle.heap_words.specs.Cells.{decoded}
+use Rattle.heap_words.specs.Heaps.{is_inside, inside_at}
+use Rattle.heap_words.specs.declared.cell.Cell.{Cell}
+use Rattle.heap_words.specs.declared.cell.Cell.TheVariants.{Unbound, Small, Raw, Top}
+use Rattle.word_states.specs.Words.{Words}
+use Rattle.word_states.specs.Numbers.{part_count}
+use Rattle.word_states.specs.Denoting.{Addresses, Denotes, ExprSays}
+use Rattle.goal_layout.specs.FirstFit.{first_fit}
+use Rattle.goal_layout.specs.Pages.{ArePages, rooms}
+
+-- the goal's places: the k-th has its word at 2k, and its name before it
+abbrev pub places_of : ℕ → Addresses
+places_of vars = map (λ k. (placed 0 k, 2 * k)) (count_up 1 vars)
+
+-- a variable of the goal is the place of its number
+abbrev pub settled_term : Term ℕ → Term Variable
+settled_term = rename (placed 0)
+
+-- the same in an expression
+abbrev pub settled_expr : Expr ℕ → Expr Variable
+settled_expr = rename_expr (placed 0)
+
+-- a tuple has at most 65 parts
+abbrev mutual
+  pub IsNarrow : Term ℕ → Type 0
+  IsNarrow (number z) = Unit {0}
+  IsNarrow (string s) = Unit {0}
+  IsNarrow nil = Unit {0}
+  IsNarrow (cons t u) = IsNarrow t × IsNarrow u
+  IsNarrow (tuple ts) = (part_count ts ≤ 65) × AreNarrow ts
+  IsNarrow (var k) = Unit {0}
+  IsNarrow (ro k) = Unit {0}
+  IsNarrow (first k) = Unit {0}
+
+  pub AreNarrow : Terms ℕ → Type 0
+  AreNarrow none = Unit {0}
+  AreNarrow (more t ts) = IsNarrow t × AreNarrow ts
+
+-- a cell that refers to nothing, and is neither a term's nor a status
+abbrev pub is_quiet : Cell → Bool
+is_quiet (Unbound e) = nat_eq e 0
+is_quiet (Small z) = true
+is_quiet (Raw n) = true
+is_quiet (Top a) = true
+is_quiet _ = false
+
+-- the word of such a cell
+pub record IsQuiet (x : ℕ) : Type 0 where
+  pub cell : Cell
+  pub says : decoded x ≡ Some cell
+  pub quiet : is_quiet cell ≡ true
+
+-- a word refers to nothing, or says an expression
+abbrev pub IsSaid : Words → Addresses → ℕ → Type 0
+IsSaid w vs x = IsQuiet x ⊎ ((e : Expr Variable) × ExprSays w vs x e)
+
+-- Pieces of these sizes were laid, each by first fit. No word in use is changed but for tops, and each new one refers to nothing or
+-- says an expression.
+pub record Lays (vs : Addresses) (sizes ws ws' : List ℕ) : Type 0 where
+  pub pages : ArePages ws'
+  pub size : length ws' ≡ length ws
+  pub fits : first_fit (rooms ws) sizes ≡ Some (rooms ws')
+  pub kept : (a : ℕ) → is_inside ws a ≡ true → (a % 1024 ≡ 0 → ⊥) → (is_inside ws' a ≡ true) × (slice_get ws' a ≡ slice_get ws a)
+  pub said : (a x : ℕ) → inside_at ws' a ≡ Some x → (inside_at ws a ≡ Some x) ⊎ IsSaid (inside_at ws') vs x
