@@ -37,7 +37,7 @@ pub zero_quiet : IsQuiet 0
 unfolding decoded
 zero_quiet = record { cell = Unbound 0; says = refl; quiet = refl }
 
-zero_moves : is_final_word 0 ≡ false
+pub zero_moves : is_final_word 0 ≡ false
 unfolding decoded
 zero_moves = refl
 

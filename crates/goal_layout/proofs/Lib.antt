@@ -4,3 +4,7 @@ pub mod Taking
 pub mod Persisting
 pub mod Lays
 pub mod Leaves
+pub mod Chains
+pub mod Listing
+pub mod Arguments
+pub mod Tupling

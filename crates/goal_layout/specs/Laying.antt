@@ -1,5 +1,7 @@
 -- What laying a piece, a term or an expression does to the words.
 use Rattle.std.specs.Prelude.{◌≡◌, ◌⊎◌, ℕ, ◌*◌, ◌%◌, ◌≤◌, Bool, true, false, List, length, map, slice_get, Option, Some, nat_eq}
+use Rattle.fcp_model.specs.declared.term.Term as source
+use Rattle.fcp_model.specs.Translation.{term_of, terms_of}
 use Rattle.fcp_model.specs.Places.{Variable, placed}
 use Rattle.fcp_model.specs.Terms.{Term, number, string, nil, cons, tuple, var, ro, first, Terms, none, more, rename}
 use Rattle.fcp_model.specs.Expressions.{Expr, leaf, op, rename_expr}
@@ -12,6 +14,7 @@ use Rattle.word_states.specs.Words.{Words}
 use Rattle.word_states.specs.Numbers.{part_count}
 use Rattle.word_states.specs.Denoting.{Addresses, Denotes, ExprSays}
 use Rattle.goal_layout.specs.FirstFit.{first_fit}
+use Rattle.goal_layout.specs.PieceSizes.{term_sizes, expr_sizes}
 use Rattle.goal_layout.specs.Pages.{ArePages, rooms}
 
 -- the goal's places: the k-th has its word at 2k, and its name before it
@@ -25,6 +28,10 @@ settled_term = rename (placed 0)
 -- the same in an expression
 abbrev pub settled_expr : Expr ℕ → Expr Variable
 settled_expr = rename_expr (placed 0)
+
+-- the parts of a tuple that was read
+abbrev pub parts_of : List source.Term → Terms ℕ
+parts_of ts = terms_of (map term_of ts)
 
 -- a tuple has at most 65 parts
 abbrev mutual
@@ -68,3 +75,13 @@ pub record Lays (vs : Addresses) (sizes ws ws' : List ℕ) : Type 0 where
   pub fits : first_fit (rooms ws) sizes ≡ Some (rooms ws')
   pub kept : (a : ℕ) → is_inside ws a ≡ true → (a % 1024 ≡ 0 → ⊥) → (is_inside ws' a ≡ true) × (slice_get ws' a ≡ slice_get ws a)
   pub said : (a x : ℕ) → inside_at ws' a ≡ Some x → (inside_at ws a ≡ Some x) ⊎ IsSaid (inside_at ws') vs x
+
+-- A term was laid: its pieces, and the word x denotes it.
+pub record LaysTerm (vars : ℕ) (t : Term ℕ) (x : ℕ) (ws ws' : List ℕ) : Type 0 where
+  pub lays : Lays (places_of vars) (term_sizes t) ws ws'
+  pub word : Denotes (inside_at ws') (places_of vars) x (settled_term t)
+
+-- so of an expression
+pub record LaysExpr (vars : ℕ) (e : Expr ℕ) (x : ℕ) (ws ws' : List ℕ) : Type 0 where
+  pub lays : Lays (places_of vars) (expr_sizes e) ws ws'
+  pub word : ExprSays (inside_at ws') (places_of vars) x (settled_expr e)

@@ -3,5 +3,6 @@
 
 mod numbers;
 mod pages;
+mod terms;
 
-pub use numbers::lay_number;
+pub use terms::lay_term;

@@ -1,5 +1,5 @@
 //! A number as a word, and the piece that a wide one has.
-ghost use Rattle.std.specs.Prelude.{◌≡◌, ◌⊎◌, ℕ, ◌+◌, ◌*◌, ◌<◌, ◌≤ℤ◌, pos, negsuc, Option, Some, None, IfNone, IfSome};
+ghost use Rattle.std.specs.Prelude.{◌≡◌, ◌⊎◌, ℕ, ◌+◌, ◌*◌, ◌<◌, ◌≤ℤ◌, pos, negsuc, Option, Some, None, IfNone, IfSome, OnSome};
 ghost use Rattle.fcp_model.specs.Terms.{number};
 ghost use Rattle.heap_words.specs.Heaps.{inside_at};
 ghost use Rattle.word_states.specs.Numbers.{bits, low_bits, IsLong};
@@ -60,6 +60,7 @@ fn split(number: i64) -> (i64, u8)
 /// The word of a number. The lower bits of a wide one are laid as a piece of their own.
 pub fn lay_number(words: &mut [u64], value: i64) -> Option<u64>
     requires { ArePages words.old }
+    ensures pages { OnSome result (ArePages words.new) }
     ensures none { IfNone result (first_fit (rooms words.old) (term_sizes (number value)) ≡ None) }
     ensures laid { (vs : Addresses) → IfSome result (λ x. Lays vs (term_sizes (number value)) words.old words.new
         × Denotes (inside_at words.new) vs x (number value)) }
