@@ -8,3 +8,4 @@ pub mod Chains
 pub mod Listing
 pub mod Arguments
 pub mod Tupling
+pub mod Operating

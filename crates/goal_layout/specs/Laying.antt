@@ -49,6 +49,11 @@ abbrev mutual
   AreNarrow none = Unit {0}
   AreNarrow (more t ts) = IsNarrow t × AreNarrow ts
 
+-- the same in an expression
+abbrev pub IsNarrowExpr : Expr ℕ → Type 0
+IsNarrowExpr (leaf t) = IsNarrow t
+IsNarrowExpr (op o d e) = IsNarrowExpr d × IsNarrowExpr e
+
 -- a cell that refers to nothing, and is neither a term's nor a status
 abbrev pub is_quiet : Cell → Bool
 is_quiet (Unbound e) = nat_eq e 0
