@@ -17,11 +17,11 @@ use Rattle.word_states.specs.Denoting.{Addresses, Denotes}
 use Rattle.goal_layout.specs.FirstFit.{first_fit}
 use Rattle.goal_layout.specs.PieceSizes.{term_sizes}
 use Rattle.goal_layout.specs.Pages.{rooms, ArePages, Takes}
-use Rattle.goal_layout.specs.Laying.{IsSaid, Lays, settled_term}
+use Rattle.goal_layout.specs.Laying.{IsBlank, IsSaid, Lays, settled_term}
 use Rattle.goal_layout.proofs.Insides.{not_inside}
 use Rattle.goal_layout.proofs.Persisting.{denotes_on, denotes_final}
 use Rattle.goal_layout.proofs.Leaves.{taken_blank}
-use Rattle.goal_layout.proofs.Lays.{first_fit-append, zero_moves, top_quiet, final_off, kept_word, lays_grows, said_on, take_lays, lays_then, IsBlank, blank_on, written_inside, written_other, written_word, written_pages, written_rooms, written_grows, lays_written}
+use Rattle.goal_layout.proofs.Lays.{first_fit-append, zero_moves, top_quiet, final_off, kept_word, lays_grows, said_on, take_lays, lays_then, blank_on, written_inside, written_other, written_word, written_pages, written_rooms, written_grows, lays_written}
 
 -- what was in use is as before, but for tops and the word at `hole`
 abbrev pub Follows : ℕ → List ℕ → List ℕ → Type 0

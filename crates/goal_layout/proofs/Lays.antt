@@ -17,7 +17,7 @@ use Rattle.word_states.specs.Words.{Words, Grows}
 use Rattle.word_states.specs.Denoting.{Addresses, Listed, ExprSays}
 use Rattle.goal_layout.specs.FirstFit.{fit, first_fit}
 use Rattle.goal_layout.specs.Pages.{room, rooms_from, rooms, ArePages, Takes}
-use Rattle.goal_layout.specs.Laying.{IsQuiet, is_quiet, IsSaid, Lays}
+use Rattle.goal_layout.specs.Laying.{IsQuiet, is_quiet, IsSaid, Lays, IsBlank}
 use Rattle.goal_layout.proofs.Insides.{inside_word, same_inside, same_inside_at, first_inside}
 use Rattle.goal_layout.proofs.Fits.{same_rooms}
 use Rattle.goal_layout.proofs.Persisting.{expr_on}
@@ -135,11 +135,6 @@ lays_then vs xs ys ws ws' ws'' l m = record {
       (λ i. inr i)
       (m.said a x e);
 }
-
--- a new word that is 0 yet
-pub record IsBlank (ws : List ℕ) (c : ℕ) : Type 0 where
-  pub word : inside_at ws c ≡ Some 0
-  pub off : c % 1024 ≡ 0 → ⊥
 
 pub blank_on : (vs : Addresses) (sizes ws ws' : List ℕ) (c : ℕ) → Lays vs sizes ws ws' → IsBlank ws c → IsBlank ws' c
 blank_on vs sizes ws ws' c l b = record {

@@ -19,8 +19,8 @@ use Rattle.word_states.specs.Numbers.{bits, low_bits, IsLong}
 use Rattle.word_states.specs.Denoting.{Addresses, Listed, Denotes}
 use Rattle.goal_layout.specs.PieceSizes.{is_small, term_sizes}
 use Rattle.goal_layout.specs.Pages.{ArePages, Takes}
-use Rattle.goal_layout.specs.Laying.{IsQuiet, IsSaid, Lays, LaysTerm, places_of}
-use Rattle.goal_layout.proofs.Lays.{lays_none, take_lays, IsBlank, lays_written, written_word}
+use Rattle.goal_layout.specs.Laying.{IsBlank, IsQuiet, IsSaid, Lays, LaysTerm, places_of}
+use Rattle.goal_layout.proofs.Lays.{lays_none, take_lays, lays_written, written_word}
 
 -- a number of 64 bits that is no small one
 pub long : (z : ℤ) → is_small z ≡ false → FitsSigned w64 z → IsLong z

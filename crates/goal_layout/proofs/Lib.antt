@@ -9,3 +9,4 @@ pub mod Listing
 pub mod Arguments
 pub mod Tupling
 pub mod Operating
+pub mod Filling

@@ -1,5 +1,5 @@
 -- What laying a piece, a term or an expression does to the words.
-use Rattle.std.specs.Prelude.{◌≡◌, ◌⊎◌, ℕ, ◌*◌, ◌%◌, ◌≤◌, Bool, true, false, List, length, map, slice_get, Option, Some, nat_eq}
+use Rattle.std.specs.Prelude.{◌≡◌, ◌⊎◌, ℕ, ◌+◌, ◌*◌, ◌%◌, ◌<◌, ◌≤◌, Bool, true, false, List, length, map, slice_get, Option, Some, nat_eq}
 use Rattle.fcp_model.specs.declared.term.Term as source
 use Rattle.fcp_model.specs.Translation.{term_of, terms_of}
 use Rattle.fcp_model.specs.Places.{Variable, placed}
@@ -10,10 +10,10 @@ use Rattle.heap_words.specs.Cells.{decoded}
 use Rattle.heap_words.specs.Heaps.{is_inside, inside_at}
 use Rattle.heap_words.specs.declared.cell.Cell.{Cell}
 use Rattle.heap_words.specs.declared.cell.Cell.TheVariants.{Unbound, Small, Raw, Top}
-use Rattle.word_states.specs.Words.{Words}
+use Rattle.word_states.specs.Words.{Words, StandAt}
 use Rattle.word_states.specs.Numbers.{part_count}
 use Rattle.word_states.specs.Denoting.{Addresses, Denotes, ExprSays}
-use Rattle.goal_layout.specs.FirstFit.{first_fit}
+use Rattle.goal_layout.specs.FirstFit.{fit, first_fit}
 use Rattle.goal_layout.specs.PieceSizes.{term_sizes, expr_sizes}
 use Rattle.goal_layout.specs.Pages.{ArePages, rooms}
 
@@ -80,6 +80,23 @@ pub record Lays (vs : Addresses) (sizes ws ws' : List ℕ) : Type 0 where
   pub fits : first_fit (rooms ws) sizes ≡ Some (rooms ws')
   pub kept : (a : ℕ) → is_inside ws a ≡ true → (a % 1024 ≡ 0 → ⊥) → (is_inside ws' a ≡ true) × (slice_get ws' a ≡ slice_get ws a)
   pub said : (a x : ℕ) → inside_at ws' a ≡ Some x → (inside_at ws a ≡ Some x) ⊎ IsSaid (inside_at ws') vs x
+
+-- a word in use that is 0 yet, and no top
+pub record IsBlank (ws : List ℕ) (a : ℕ) : Type 0 where
+  pub word : inside_at ws a ≡ Some 0
+  pub off : a % 1024 ≡ 0 → ⊥
+
+-- A piece of n words is at a. Its first words are xs, and the others are 0 yet; no other word in use is new but for tops.
+pub record Fills (n a : ℕ) (xs ws ws' : List ℕ) : Type 0 where
+  pub pages : ArePages ws'
+  pub size : length ws' ≡ length ws
+  pub fits : fit n (rooms ws) ≡ Some (rooms ws')
+  pub inside : a + n ≤ length ws
+  pub free : (b : ℕ) → a ≤ b → b < a + n → is_inside ws b ≡ false
+  pub stand : StandAt (inside_at ws') a xs
+  pub blank : (b : ℕ) → a + length xs ≤ b → b < a + n → IsBlank ws' b
+  pub kept : (b : ℕ) → is_inside ws b ≡ true → (b % 1024 ≡ 0 → ⊥) → (is_inside ws' b ≡ true) × (slice_get ws' b ≡ slice_get ws b)
+  pub others : (b x : ℕ) → inside_at ws' b ≡ Some x → (b < a) ⊎ (a + n ≤ b) → (inside_at ws b ≡ Some x) ⊎ IsQuiet x
 
 -- A term was laid: its pieces, and the word x denotes it.
 pub record LaysTerm (vars : ℕ) (t : Term ℕ) (x : ℕ) (ws ws' : List ℕ) : Type 0 where

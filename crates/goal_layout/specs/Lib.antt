@@ -2,3 +2,4 @@ pub mod FirstFit
 pub mod PieceSizes
 pub mod Pages
 pub mod Laying
+pub mod Items

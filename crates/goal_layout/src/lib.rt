@@ -4,7 +4,9 @@
 mod expressions;
 mod numbers;
 mod pages;
+mod processes;
 mod terms;
 
 pub use expressions::lay_expr;
+pub use processes::lay_process;
 pub use terms::lay_term;
