@@ -10,3 +10,6 @@ pub mod Arguments
 pub mod Tupling
 pub mod Operating
 pub mod Filling
+pub mod Heading
+pub mod Calling
+pub mod Siding

@@ -165,3 +165,7 @@ module _ (whole : source.Term) where
 pub none_if : (o : Option ℕ) (P : Type 0) → P → IfNone o P
 none_if None P h = h
 none_if (Some x) P h = tt
+
+pub none_then : (o : Option ℕ) (P Q : Type 0) → (P → Q) → IfNone o P → IfNone o Q
+none_then None P Q f h = f h
+none_then (Some x) P Q f h = tt

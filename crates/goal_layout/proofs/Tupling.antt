@@ -26,7 +26,7 @@ use Rattle.goal_layout.proofs.Lays.{first_fit-append, take_lays, lays_then, lays
 use Rattle.goal_layout.proofs.Listing.{LaysAlways}
 use Rattle.goal_layout.proofs.Arguments.{arguments_more, parts_said, renames_terms, count_of}
 
-twice : (ts : List source.Term) → map settled_term (map term_of ts) ≡ map (λ t. settled_term (term_of t)) ts
+pub twice : (ts : List source.Term) → map settled_term (map term_of ts) ≡ map (λ t. settled_term (term_of t)) ts
 twice [] = refl
 twice (t ∷ ts) = ap (λ us. settled_term (term_of t) ∷ us) (twice ts)
 

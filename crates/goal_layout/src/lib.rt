@@ -2,11 +2,12 @@
 #![tactic(auto)]
 
 mod expressions;
+mod items;
 mod numbers;
 mod pages;
 mod processes;
 mod terms;
 
 pub use expressions::lay_expr;
-pub use processes::lay_process;
+pub use items::lay_item;
 pub use terms::lay_term;
