@@ -13,3 +13,4 @@ pub mod Filling
 pub mod Heading
 pub mod Calling
 pub mod Siding
+pub mod CallItems
