@@ -14,3 +14,7 @@ pub mod Heading
 pub mod Calling
 pub mod Siding
 pub mod CallItems
+pub mod Weights
+pub mod Views
+pub mod Quiet
+pub mod Heaping
