@@ -18,3 +18,6 @@ pub mod Weights
 pub mod Views
 pub mod Quiet
 pub mod Heaping
+pub mod FirstPlaces
+pub mod FirstProcesses
+pub mod FirstStates

@@ -3,3 +3,4 @@ pub mod PieceSizes
 pub mod Pages
 pub mod Laying
 pub mod Items
+pub mod Goals
