@@ -21,3 +21,4 @@ pub mod Heaping
 pub mod FirstPlaces
 pub mod FirstProcesses
 pub mod FirstStates
+pub mod FirstStands
