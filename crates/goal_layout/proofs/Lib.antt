@@ -22,3 +22,4 @@ pub mod FirstPlaces
 pub mod FirstProcesses
 pub mod FirstStates
 pub mod FirstStands
+pub mod Placing

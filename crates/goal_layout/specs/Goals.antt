@@ -66,3 +66,7 @@ pub record LaysGoal (m : Module) (g : GoalText) (p : ℕ) (ws ws' : List ℕ) : 
   pub stands : StandsFor book (inside_at ws') (start_of m g)
   pub first : slice_get book.processes 0 ≡ Some p
   pub tops : (q : ℕ) → 1024 * q < length ws → top_at ws (1024 * q) ≤ top_at ws' (1024 * q)
+
+-- a number that 32 bits hold: the greatest of them for all that are greater
+abbrev pub at_most : ℕ → ℕ
+at_most n = min n 4294967295

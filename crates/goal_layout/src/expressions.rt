@@ -30,7 +30,7 @@ fn operator(op: ArithOp) -> u32
 }
 
 /// The word of an expression, whose pieces are laid. Calls nest as deep as its operators, of which an item has at most 256.
-pub fn lay_expr(words: &mut [u64], expr: &Expr) -> Option<u64>
+pub(crate) fn lay_expr(words: &mut [u64], expr: &Expr) -> Option<u64>
     requires pages { ArePages words.old }
     requires narrow { IsNarrowExpr (expr_of expr.now) }
     requires numbered { (vars : ℕ) × ExprOver (IsNumbered vars) (expr_of expr.now) }

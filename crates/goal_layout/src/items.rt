@@ -68,7 +68,7 @@ fn lay_assign(words: &mut [u64], left: &Term, right: &Expr, procedure: u32, numb
 }
 
 /// Lays an item whose procedure has this number, and answers the address of its process, which is the one of the second number.
-pub fn lay_item(words: &mut [u64], call: &Call, procedure: u32, number: u32) -> Option<u32>
+pub(crate) fn lay_item(words: &mut [u64], call: &Call, procedure: u32, number: u32) -> Option<u32>
     requires pages { ArePages words.old }
     requires layable { (m : Module) × IsLayable m call.now procedure }
     ensures none { (m : Module) → IsNumberIn m call.now procedure

@@ -1,13 +1,14 @@
 //! A goal is laid into the pages of a new heap.
 #![tactic(auto)]
 
+mod cells;
 mod expressions;
 mod items;
+
 mod numbers;
 mod pages;
+mod places;
 mod processes;
 mod terms;
 
-pub use expressions::lay_expr;
-pub use items::lay_item;
-pub use terms::lay_term;
+

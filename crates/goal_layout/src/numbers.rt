@@ -58,7 +58,7 @@ fn split(number: i64) -> (i64, u8)
 }
 
 /// The word of a number. The lower bits of a wide one are laid as a piece of their own.
-pub fn lay_number(words: &mut [u64], value: i64) -> Option<u64>
+pub(crate) fn lay_number(words: &mut [u64], value: i64) -> Option<u64>
     requires { ArePages words.old }
     ensures pages { OnSome result (ArePages words.new) }
     ensures none { IfNone result (first_fit (rooms words.old) (term_sizes (number value)) ≡ None) }

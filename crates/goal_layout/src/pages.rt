@@ -20,7 +20,7 @@ fn top_of(word: u64) -> u32
 }
 
 /// Takes so many free words in the first page that has them, and answers the address of the first. They are 0.
-pub fn take(words: &mut [u64], size: u32) -> Option<u32>
+pub(crate) fn take(words: &mut [u64], size: u32) -> Option<u32>
     requires pages { ArePages words.old }
     requires some { 0 < size }
     ensures none { IfNone result (fit size (rooms words.old) ≡ None) }

@@ -25,7 +25,7 @@ fn string_word(string: Sym) -> u64
 
 /// The word of a term, whose pieces are laid. Calls nest as deep as brackets.
 #[cycle(terms)]
-pub fn lay_term(words: &mut [u64], term: &Term) -> Option<u64>
+pub(crate) fn lay_term(words: &mut [u64], term: &Term) -> Option<u64>
     requires pages { ArePages words.old }
     requires narrow { IsNarrow (term_of term.now) }
     requires numbered { (vars : ℕ) × Over (IsNumbered vars) (term_of term.now) }
