@@ -125,7 +125,7 @@ module _ (vars : ℕ) (few : vars ≤ 250) (gs : List (Goal ℕ)) (n : ℕ) (bas
   abbrev qs : List Process
   qs = processes_of 0 1 (map settled_goal gs)
 
-  abbrev first_book : Book
+  abbrev pub first_book : Book
   first_book = record { places = vs; processes = procs }
 
   counts : length procs ≡ length qs

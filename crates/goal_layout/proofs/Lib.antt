@@ -23,3 +23,4 @@ pub mod FirstProcesses
 pub mod FirstStates
 pub mod FirstStands
 pub mod Placing
+pub mod AllItems

@@ -1,5 +1,5 @@
 -- What laying a goal asks, and what it leaves.
-use Rattle.std.specs.Prelude.{◌≡◌, ℕ, ◌+◌, ◌-◌, ◌*◌, ◌%◌, ◌<◌, ◌≤◌, pos, min, List, [], ◌∷◌, length, replicate, slice_get, sum, sum_by, Some}
+use Rattle.std.specs.Prelude.{◌≡◌, ℕ, ◌+◌, ◌-◌, ◌*◌, ◌%◌, ◌<◌, ◌≤◌, pos, min, List, [], ◌∷◌, length, replicate, slice_get, sum, sum_by, Some, None}
 use Rattle.fcp_model.specs.declared.source.GoalText.{GoalText}
 use Rattle.fcp_model.specs.declared.source.Module.{Module}
 use Rattle.fcp_model.specs.declared.goal.TheConstants.{TRUE_PROCEDURE}
@@ -13,6 +13,8 @@ use Rattle.heap_words.specs.Heaps.{IsHeap, AreFresh, inside_at, top_at}
 use Rattle.heap_words.specs.declared.cell.Cell.TheVariants.{Small}
 use Rattle.word_states.specs.Words.{At}
 use Rattle.word_states.specs.Standing.{Book, StandsFor}
+use Rattle.goal_layout.specs.declared.layout.Laid.{Laid}
+use Rattle.goal_layout.specs.declared.layout.Laid.TheVariants.{Done, NoRoom}
 use Rattle.goal_layout.specs.FirstFit.{first_fit}
 use Rattle.goal_layout.specs.PieceSizes.{sizes_of}
 use Rattle.goal_layout.specs.Pages.{ArePages, rooms}
@@ -70,3 +72,9 @@ pub record LaysGoal (m : Module) (g : GoalText) (p : ℕ) (ws ws' : List ℕ) : 
 -- a number that 32 bits hold: the greatest of them for all that are greater
 abbrev pub at_most : ℕ → ℕ
 at_most n = min n 4294967295
+
+-- How a goal was laid: where not all of its pieces fit, its cells and the free words are told, and the words are as they were.
+abbrev pub IsLaid : Module → GoalText → List ℕ → List ℕ → Laid → Type 0
+IsLaid m g ws ws' (Done p) = LaysGoal m g p ws ws'
+IsLaid m g ws ws' (NoRoom needed free) = (first_fit (rooms ws) (goal_pieces m g) ≡ None)
+    × (needed ≡ at_most (cells_of m g)) × (free ≡ sum (rooms ws)) × (ws' ≡ ws)

@@ -1,10 +1,11 @@
 //! The cells of a goal. Sums that no 32 bits hold stop at the greatest number that they hold.
-ghost use Rattle.std.specs.Prelude.{◌≡◌, ◌+◌, ◌*◌, ◌-◌, ◌^◌, length, map, min, sum_by, List};
+ghost use Rattle.std.specs.Prelude.{◌≡◌, ◌+◌, ◌*◌, ◌-◌, ◌^◌, ◌≤◌, length, map, min, sum_by, List};
 ghost use Rattle.fcp_model.specs.declared.loaded.ProcedureName.{ProcedureName};
+ghost use Rattle.fcp_model.specs.declared.source.Module.{Module};
 ghost use Rattle.fcp_model.specs.Translation.{term_of, expr_of, goal_of, goals_of};
 ghost use Rattle.fcp_model.specs.Cells.{term_cells, terms_cells, expr_cells, goal_cells};
 ghost use Rattle.goal_layout.specs.Laying.{parts_of};
-ghost use Rattle.goal_layout.specs.Goals.{at_most};
+ghost use Rattle.goal_layout.specs.Goals.{at_most, cells_of};
 
 use fcp_model::{Call, Expr, GoalText, Item, Term};
 
@@ -89,4 +90,13 @@ fn item_list_cells(items: &[Item]) -> u32
         cells = cells.saturating_add(item_cells(&item.call));
     }
     cells
+}
+
+/// The cells of a goal: two for each place, and those of its items.
+pub(crate) fn goal_cells(goal: &GoalText) -> u32
+    requires { length goal.now.names ≤ 250 }
+    ensures { (m : Module) → result ≡ at_most (cells_of m goal.now) }
+{
+    let places = 2 * goal.names.len() as u32;
+    item_list_cells(goal.items.as_slice()).saturating_add(places)
 }

@@ -4,6 +4,7 @@
 mod cells;
 mod expressions;
 mod items;
+mod layout;
 
 mod numbers;
 mod pages;
@@ -11,4 +12,4 @@ mod places;
 mod processes;
 mod terms;
 
-
+pub use layout::{Laid, lay_goal};
