@@ -1,5 +1,5 @@
 -- Heaps whose words refer to nothing: a new heap, and one to which such words are added.
-use Rattle.std.proofs.Common.{◌≡◌, ℕ, zero, suc, ◌+◌, ◌-◌, ◌*◌, ◌||◌, ◌%◌, ◌<◌, ◌≤◌, Bool, true, false, cond, List, [], ◌∷◌}
+use Rattle.std.proofs.Common.{inl, ◌≡◌, ℕ, zero, suc, ◌+◌, ◌-◌, ◌*◌, ◌||◌, ◌%◌, ◌<◌, ◌≤◌, Bool, true, false, cond, List, [], ◌∷◌}
 use Rattle.std.proofs.Common.{length, set, slice_get, Option, Some, None, refl, sym, ap, ◌∙◌, subst, arith, ⊎_elim}
 use Rattle.std.specs.Prelude.{nat_eq, nat_lt}
 use Rattle.std.specs.Option.{option_and_then}
@@ -138,6 +138,8 @@ quiet_heap pages ws q = record {
     rank = λ a. 0;
     falls = λ a b x c e d r. absurd (quiet_refers c b (quiet_cell x c (q.each a x (final_word ws a x e)) d) (reaches_refers c b r));
     falls_by = λ a b x t y n c e d i _ _ _. absurd (quiet_tells c t (quiet_cell x c (q.each a x (final_word ws a x e)) d) i);
+    order = λ a. 0;
+    links = λ a c x y n e d _ _. absurd (quiet_refers (Cons c) c (quiet_cell x (Cons c) (q.each a x (final_word ws a x e)) d) (inl refl));
   };
 }
 

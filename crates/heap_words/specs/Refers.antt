@@ -15,26 +15,28 @@ Refers (Cons a) b = (b ≡ a) ⊎ (b ≡ suc a)
 Refers (Tuple a) b = b ≡ a
 Refers _ b = ⊥
 
--- and where a walk goes on from it: the same, but for the name of a place, which refers to nothing
+-- Where a walk over terms goes on from it by itself: from a reference to its place, from a pair to its parts. A place's name, a tuple's
+-- `Raw` and a wide number's lower bits are read as they are, and waiting lists are walked apart.
 abbrev pub Reaches : Cell → ℕ → Type 0
 Reaches (Ref a) b = b ≡ a
 Reaches (RoRef a) b = b ≡ a
-Reaches c b = Refers c b
+Reaches (Cons a) b = (b ≡ a) ⊎ (b ≡ suc a)
+Reaches _ b = ⊥
 
 -- whatever is reached is referred to
 pub reaches_refers : (c : Cell) (b : ℕ) → Reaches c b → Refers c b
-reaches_refers (Unbound e) b r = r
+reaches_refers (Unbound e) b r = absurd r
 reaches_refers (Ref a) b r = inl r
 reaches_refers (RoRef a) b r = inl r
-reaches_refers (Small z) b r = r
-reaches_refers (Wide a h) b r = r
-reaches_refers (Str s) b r = r
-reaches_refers Nil b r = r
+reaches_refers (Small z) b r = absurd r
+reaches_refers (Wide a h) b r = absurd r
+reaches_refers (Str s) b r = absurd r
+reaches_refers Nil b r = absurd r
 reaches_refers (Cons a) b r = r
-reaches_refers (Tuple a) b r = r
-reaches_refers (Status d) b r = r
-reaches_refers (Raw n) b r = r
-reaches_refers (Top a) b r = r
+reaches_refers (Tuple a) b r = absurd r
+reaches_refers (Status d) b r = absurd r
+reaches_refers (Raw n) b r = absurd r
+reaches_refers (Top a) b r = absurd r
 
 -- where the number stands that tells to what more it refers
 abbrev pub teller : Cell → Option ℕ
@@ -54,7 +56,27 @@ RefersBy n (Cons a) b = (b ≡ n) ⊎ (b ≡ a + 2)
 RefersBy n (Tuple a) b = (a < b) × (b ≤ a + parts n)
 RefersBy n _ b = ⊥
 
--- To which of them it refers as to its parts: whatever it reaches, but for a place. Parts are never changed.
+-- and where a walk goes on by a `Raw` of n: from a tuple to its parts
+abbrev pub ReachesBy : ℕ → Cell → ℕ → Type 0
+ReachesBy n (Tuple a) b = (a < b) × (b ≤ a + parts n)
+ReachesBy n _ b = ⊥
+
+-- whatever is reached so is referred to
+pub reaches_by_refers : (n : ℕ) (c : Cell) (b : ℕ) → ReachesBy n c b → RefersBy n c b
+reaches_by_refers n (Unbound e) b r = absurd r
+reaches_by_refers n (Ref a) b r = absurd r
+reaches_by_refers n (RoRef a) b r = absurd r
+reaches_by_refers n (Small z) b r = absurd r
+reaches_by_refers n (Wide a h) b r = absurd r
+reaches_by_refers n (Str s) b r = absurd r
+reaches_by_refers n Nil b r = absurd r
+reaches_by_refers n (Cons a) b r = absurd r
+reaches_by_refers n (Tuple a) b r = r
+reaches_by_refers n (Status d) b r = absurd r
+reaches_by_refers n (Raw m) b r = absurd r
+reaches_by_refers n (Top a) b r = absurd r
+
+-- To which of them it refers as to its parts: all but a place and its name. Parts are never changed.
 abbrev pub HasPart : Cell → ℕ → Type 0
 HasPart (Ref a) b = ⊥
 HasPart (RoRef a) b = ⊥

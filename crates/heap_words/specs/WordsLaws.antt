@@ -1,23 +1,27 @@
 -- What is asked of words that are loaded.
 use Rattle.std.specs.Prelude.{◌≡◌, ℕ, ◌+◌, ◌<◌, ◌≤◌, true, Option, Some, None}
 use Rattle.heap_words.specs.Cells.{decoded, is_final_word}
-use Rattle.heap_words.specs.Refers.{Refers, Reaches, HasPart, teller, RefersBy, HasPartBy}
+use Rattle.heap_words.specs.Refers.{Refers, Reaches, HasPart, teller, RefersBy, ReachesBy, HasPartBy}
 use Rattle.heap_words.specs.declared.cell.Cell.{Cell}
-use Rattle.heap_words.specs.declared.cell.Cell.TheVariants.{Status, Raw}
+use Rattle.heap_words.specs.declared.cell.Cell.TheVariants.{Cons, Status, Raw}
 use Rattle.heap_words.specs.declared.cell.Stand.{Stand}
 
 -- what refers to no more than it says by itself
 abbrev pub tells_all : Cell → Type 0
 tells_all c = teller c ≡ None
 
--- words by address, where there is one, whose references have no cycle
+-- Words by address, where there is one, have no cycle: neither along walks over terms nor along waiting lists.
 pub record Acyclic (at : ℕ → Option ℕ) : Type 0 where
   pub rank : ℕ → ℕ
-  -- it falls from a word to each word that is reached from it by itself
+  -- it falls from a word to each word to which a walk over terms goes on by itself
   pub falls : (a b x : ℕ) (c : Cell) → at a ≡ Some x → decoded x ≡ Some c → Reaches c b → rank b < rank a
-  -- and to each to which it refers by the number that stands there
+  -- and to each to which it goes on by the number that stands there
   pub falls_by : (a b x t y n : ℕ) (c : Cell) → at a ≡ Some x → decoded x ≡ Some c → teller c ≡ Some t → at t ≡ Some y
-      → decoded y ≡ Some (Raw n) → RefersBy n c b → rank b < rank a
+      → decoded y ≡ Some (Raw n) → ReachesBy n c b → rank b < rank a
+  -- and another one falls from the link of a waiting entry to the link of the entry to which it leads
+  pub order : ℕ → ℕ
+  pub links : (a c x y n : ℕ) → at a ≡ Some x → decoded x ≡ Some (Cons c) → at c ≡ Some y → decoded y ≡ Some (Raw n)
+      → order (c + 2) < order a
 
 -- The laws of loaded words, by what they are of: `later` says that only loads lie between two states. Every crate above
 -- stands on these laws, and each kind of words has to show them: they are not to change any more.

@@ -2,7 +2,7 @@
 use Rattle.std.proofs.Common.{◌≡◌, ℕ, zero, suc, ◌+◌, ◌<◌, ◌≤◌, max, Bool, true, false, cond, [], ◌∷◌, ◌++◌}
 use Rattle.std.proofs.Common.{Option, Some, None, refl, sym, ap, ◌∙◌, subst, arith, inl, inr, ⊎_elim}
 use Rattle.std.specs.Prelude.{◌⊎◌, ◌||◌, nat_eq, nat_lt, unwrap_or}
-use Rattle.std.proofs.lemmas.Bool.{eqb-true, eq-eqb}
+use Rattle.std.proofs.lemmas.Bool.{eqb-true, eq-eqb, lt-ltb, cond-true}
 use Rattle.std.proofs.lemmas.Bool.Decides.{nat_tests}
 use Rattle.heap_words.specs.Cells.{decoded}
 use Rattle.heap_words.specs.WordsLaws.{WordsLaws, Acyclic}
@@ -13,7 +13,7 @@ use Rattle.ro_unify.specs.declared.occurrence.Whole.TheVariants as whole
 use Rattle.ro_unify.specs.Occurs.{whole_of, count_of}
 use Rattle.ro_unify.specs.Walks.{seen_at, IsSeen, seen_memory, Node, place, part, count, address}
 use Rattle.ro_unify.specs.Walks.{node_word, IsPartOf, IsCountOf, Goes, Edge, Tame, Walked}
-use Rattle.ro_unify.proofs.Seeing.{goes_seen, nil_goes, seen_had, goes_known, goes_down, seen_on, seen_word}
+use Rattle.ro_unify.proofs.Seeing.{Falls, goes_seen, nil_goes, seen_had, goes_known, goes_down, seen_on, seen_word}
 
 -- no rank of an address below n is above this
 abbrev top_of : (ℕ → ℕ) → ℕ → ℕ
@@ -51,20 +51,45 @@ layered_falls set r top s a b low stay inside outside = go (set a) (set b) refl 
     go false true e f = omega (arith, low b)
     go false false e f = omega (arith, outside e f)
 
--- no rank of an address of n on is above 0
+-- The rank of an address below n as that of a node. Numbers of parts stand below all, with the addresses from n on.
 abbrev capped : (ℕ → ℕ) → ℕ → Node → ℕ
-capped f n a = cond (nat_lt (address a) n) (f (address a)) 0
+capped f n (place a) = cond (nat_lt a n) (suc (f a)) 0
+capped f n (part a) = cond (nat_lt a n) (suc (f a)) 0
+capped f n (count a) = 0
 
-capped_low : (f : ℕ → ℕ) (n : ℕ) (a : Node) → capped f n a ≤ top_of f n
-capped_low f n a = go (nat_lt (address a) n) refl
+capped_word : (f : ℕ → ℕ) (n a : ℕ) → cond (nat_lt a n) (suc (f a)) 0 ≤ suc (top_of f n)
+capped_word f n a = go (nat_lt a n) refl
   where
-    go : (x : Bool) → nat_lt (address a) n ≡ x → cond x (f (address a)) 0 ≤ top_of f n
-    go true e = below_top f n (address a) (let h : address a < n = grind (arith, nat_tests) in h)
+    go : (x : Bool) → nat_lt a n ≡ x → cond x (suc (f a)) 0 ≤ suc (top_of f n)
+    go true e = let h : a < n = grind (arith, nat_tests) in omega (arith, below_top f n a h)
     go false e = omega arith
 
-capped_falls : (f : ℕ → ℕ) (n : ℕ) (a b : Node) → address a < n → address b < n → f (address b) < f (address a)
+capped_low : (f : ℕ → ℕ) (n : ℕ) (a : Node) → capped f n a ≤ suc (top_of f n)
+capped_low f n (place a) = capped_word f n a
+capped_low f n (part a) = capped_word f n a
+capped_low f n (count a) = omega arith
+
+-- a node has a word, which a walk goes on from
+abbrev HasWord : Node → Type 0
+HasWord (place a) = Unit {0}
+HasWord (part a) = Unit {0}
+HasWord (count a) = ⊥
+
+has_word : (bs : WordList) (m : Memory) (a b : Node) → Edge bs m a b → HasWord a
+has_word bs m (place a) b e = tt
+has_word bs m (part a) b e = tt
+has_word bs m (count a) b e = nil_goes m b e
+
+capped_at : (f : ℕ → ℕ) (n : ℕ) (a : Node) → HasWord a → address a < n → capped f n a ≡ suc (f (address a))
+capped_at f n (place a) h l = cond-true _ _ _ (lt-ltb a n l)
+capped_at f n (part a) h l = cond-true _ _ _ (lt-ltb a n l)
+capped_at f n (count a) h l = absurd h
+
+capped_falls : (f : ℕ → ℕ) (n : ℕ) (a b : Node) → HasWord a → address a < n → address b < n → Falls f (address a) b
     → capped f n b < capped f n a
-capped_falls f n a b h i j = grind (arith, nat_tests)
+capped_falls f n a (place b) w h i j = omega (arith, capped_at f n a w h, capped_at f n (place b) tt i, j)
+capped_falls f n a (part b) w h i j = omega (arith, capped_at f n a w h, capped_at f n (part b) tt i, j)
+capped_falls f n a (count b) w h i j = omega (arith, capped_at f n a w h)
 
 module _ {S : Type 0} {addresses : S → ℕ} {sound : S → Type 0} {knows : S → ℕ → Type 0} {had : S → ℕ → ℕ → Type 0} {leads : S → ℕ → Type 0}
     {own shown : S → ℕ → Option ℕ} {later : S → S → Type 0} {gave : S → S → ℕ → ℕ → Type 0}
@@ -75,8 +100,8 @@ module _ {S : Type 0} {addresses : S → ℕ} {sound : S → Type 0} {knows : S 
       → Tame binds kept before n → Tame binds kept' (own w) n'
   tame_grown {kept = kept} {binds = binds} {kept' = kept'} {before = before} {w = w} n n' so holds more wide size t = record {
     rank = layered t.inner t.rank t.top (capped s.rank n');
-    top = suc t.top + top_of s.rank n';
-    low = layered_low t.inner t.rank t.top (capped s.rank n') (top_of s.rank n') t.low (capped_low s.rank n');
+    top = suc t.top + suc (top_of s.rank n');
+    low = layered_low t.inner t.rank t.top (capped s.rank n') (suc (top_of s.rank n')) t.low (capped_low s.rank n');
     falls = λ a b e. layered_falls t.inner t.rank t.top (capped s.rank n') a b t.low (stay a b e) (λ i. t.falls a b (back a b e i))
         (λ i _. outside a b e i);
     within = under_n;
@@ -159,7 +184,7 @@ module _ {S : Type 0} {addresses : S → ℕ} {sound : S → Type 0} {knows : S 
           let o = outer a b e i in
           let h = seen_had laws (address a) o.0 so holds_now o.1 in
           let k = goes_known laws o.0 b so holds_now (laws.had_leads w (address a) o.0 so h) o.2 in
-          capped_falls s.rank n' a b
+          capped_falls s.rank n' a b (has_word binds m' a b e)
           (omega (arith, laws.in_range w (address a) so (laws.had_known w (address a) o.0 so h)))
           (omega (arith, laws.in_range w (address b) so k))
           (goes_down laws (address a) o.0 b so holds_now o.1 o.2 s)
@@ -173,9 +198,10 @@ module _ {S : Type 0} {addresses : S → ℕ} {sound : S → Type 0} {knows : S 
   pub tame_free : {kept : WordList} {w : S} → sound w → Holds had leads kept [] w → Tame [] kept (own w) (addresses w)
   tame_free {kept = kept} {w = w} s h = record {
     rank = capped k.rank (addresses w);
-    top = top_of k.rank (addresses w);
+    top = suc (top_of k.rank (addresses w));
     low = capped_low k.rank (addresses w);
-    falls = λ a b e. let o = step a b e in capped_falls k.rank (addresses w) a b (near a o.0 o.1) (target a b o.0 o.1 o.2)
+    falls =
+        λ a b e. let o = step a b e in capped_falls k.rank (addresses w) a b (has_word [] m a b e) (near a o.0 o.1) (target a b o.0 o.1 o.2)
         (goes_down laws (address a) o.0 b s h o.1 o.2 k);
     within = λ a b e. let o = step a b e in target a b o.0 o.1 o.2;
     inner = λ _. false;

@@ -52,6 +52,12 @@ count_seen kept own a h = go (seen_at kept own a) refl
     go None e = absurd (let k : count_of (decoded (seen_memory kept own a)) ≡ 0 = ap
         (λ (o : Option ℕ). count_of (decoded (unwrap_or o 6))) e ∙ ap count_of nil_is in omega arith)
 
+-- a rank falls from an address to a node, unless this is the number of a tuple's parts, where a walk ends
+abbrev pub Falls : (ℕ → ℕ) → ℕ → Node → Type 0
+Falls f a (place b) = f b < f a
+Falls f a (part b) = f b < f a
+Falls f a (count b) = Unit {0}
+
 module _ {S : Type 0} {addresses : S → ℕ} {sound : S → Type 0} {knows : S → ℕ → Type 0} {had : S → ℕ → ℕ → Type 0} {leads : S → ℕ → Type 0}
     {own shown : S → ℕ → Option ℕ} {later : S → S → Type 0} {gave : S → S → ℕ → ℕ → Type 0}
     (laws : WordsLaws {S = S} addresses sound knows had leads own shown later gave) where
@@ -120,7 +126,7 @@ module _ {S : Type 0} {addresses : S → ℕ} {sound : S → Type 0} {knows : S 
       go (whole.Tuple a) e i = laws.reaches w x q (Tuple a) s l (is_tuple_at (decoded x) a e) i
 
   pub goes_down : {kept binds : WordList} {w : S} (a x : ℕ) (b : Node) → sound w → Holds had leads kept binds w
-      → seen_at kept (own w) a ≡ Some x → Goes (seen_memory kept (own w)) x b → (s : Acyclic (shown w)) → s.rank (address b) < s.rank a
+      → seen_at kept (own w) a ≡ Some x → Goes (seen_memory kept (own w)) x b → (s : Acyclic (shown w)) → Falls s.rank a b
   goes_down {kept = kept} {binds = binds} {w = w} a x (place q) s h e r k = go (leads_on false (decoded x)) refl r
     where
       go : (o : Option (Bool × ℕ)) → leads_on false (decoded x) ≡ o → IsPlaceOf o q → k.rank q < k.rank a
@@ -149,14 +155,7 @@ module _ {S : Type 0} {addresses : S → ℕ} {sound : S → Type 0} {knows : S 
           k.falls a q x (Cons c) (at (Cons c) (is_pair (decoded x) c f) refl) (is_pair (decoded x) c f)
           (⊎_elim (λ j. inl j) (λ j. inr (let l : q ≡ suc c = omega arith in l)) i)
       go (whole.Tuple t) f i = tuple t (is_tuple_at (decoded x) t f) i
-  goes_down {kept = kept} {binds = binds} {w = w} a x (count q) s h e r k = go (whole_of (decoded x)) refl r
-    where
-      go : (o : Whole) → whole_of (decoded x) ≡ o → IsCountOf o q → k.rank q < k.rank a
-      go whole.Atom f i = absurd i
-      go (whole.Pair c) f i = absurd i
-      go (whole.Tuple t) f i =
-          let c : decoded x ≡ Some (Tuple t) = is_tuple_at (decoded x) t f in
-          k.falls a q x (Tuple t) (laws.had_shown w a x s (seen_had a x s h e) (ap is_final_in c)) c i
+  goes_down a x (count q) s h e r k = tt
 
   -- what was seen before is seen after more loads
   module _ {kept binds kept' binds' : WordList} {v w : S} (p : KeepsLoads sound had leads later gave kept binds v kept' binds' w) where

@@ -1,7 +1,7 @@
 -- A try that has nothing on its trail yet.
-use Rattle.std.proofs.Common.{◌≡◌, ℕ, List, [], Option, Some, None, sym, ◌∙◌, subst}
+use Rattle.std.proofs.Common.{◌≡◌, ℕ, [], Option, Some, None, sym, subst}
 use Rattle.heap_words.specs.WordsLaws.{WordsLaws}
-use Rattle.heap_words.specs.Trails.{WordList, word_at, Holds}
+use Rattle.heap_words.specs.Trails.{WordList, Holds}
 use Rattle.ro_unify.specs.Walks.{Tame}
 use Rattle.ro_unify.proofs.Ending.{tame_free}
 

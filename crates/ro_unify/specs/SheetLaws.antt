@@ -6,7 +6,7 @@ use Rattle.std.proofs.lemmas.Bool.{and_parts, ltb-true, eqb-true}
 use Rattle.std.proofs.lemmas.Bool.Decides.{nat_tests}
 use Rattle.std.proofs.lemmas.Option.{slice_get_within}
 use Rattle.heap_words.specs.Cells.{decoded, is_final_word, is_final_in}
-use Rattle.heap_words.specs.Refers.{Refers, reaches_refers, HasPart, teller, RefersBy, HasPartBy, parts}
+use Rattle.heap_words.specs.Refers.{Refers, reaches_refers, reaches_by_refers, HasPart, teller, RefersBy, HasPartBy, parts}
 use Rattle.heap_words.specs.Heaps.{only_final}
 use Rattle.heap_words.specs.WordsLaws.{WordsLaws}
 use Rattle.heap_words.specs.declared.cell.Cell.{Cell}
@@ -82,6 +82,10 @@ by_down : (a t n b : ℕ) (c : Cell) → Told a c t → RefersBy n c b → b < a
 by_down a t n b c (by_tuple d e f low head) r =
     let i : (d < b) × (b ≤ d + parts n) = subst (λ (z : Cell). RefersBy n z b) e r in
     let k = few_parts n in omega (arith, i.1, k, low)
+
+-- a pair has none
+no_link : (a c : ℕ) → Told a (Cons c) c → ⊥
+no_link a c (by_tuple d e f low head) = cc
 
 term_block : (d b : ℕ) → d % 256 ≡ 128 → d < b → b ≤ d + 65 → is_among_places b ≡ false
 term_block d b h l u = let k : b / 128 % 2 ≡ 1 = omega (arith, h, l, u) in ap (λ (z : ℕ). nat_eq z 0) k
@@ -239,7 +243,11 @@ sheet_laws ws = record {
     falls = λ a b x c e d r. refers_down a b c (down (ws w) a x c (final_given (word_in (ws w) a) x e) d) (reaches_refers c b r);
     falls_by = λ a b x t y n c e d k i j r. by_down a t n b c
         (told a t c (down (ws w) a x c (final_given (word_in (ws w) a) x e) d) k
-        (raw_head (ws w) t y n (final_given (word_in (ws w) t) y i) j)) r;
+        (raw_head (ws w) t y n (final_given (word_in (ws w) t) y i) j)) (reaches_by_refers n c b r);
+    order = λ a. a;
+    links = λ a c x y n e d i j. absurd (no_link a c
+        (told a c (Cons c) (down (ws w) a x (Cons c) (final_given (word_in (ws w) a) x e) d) refl
+        (raw_head (ws w) c y n (final_given (word_in (ws w) c) y i) j)));
   };
   had_shown = λ w a x s h f. ap only_final h ∙ ap (λ t. cond t (Some x) None) f;
   own_had = λ w a x s e. let h : None ≡ Some x = e in cc;

@@ -97,7 +97,8 @@ module _ (p : Naming) (m : Memory) (names : Names p m) where
   sizes_parts none (more u us) a b e d f = absurd (let h : 0 ≡ suc (part_count us) = e in omega arith)
   sizes_parts (more t ts) none a b e d f = absurd (let h : suc (part_count ts) ≡ 0 = e in omega arith)
   sizes_parts (more t ts) (more u us) a b e d f =
-      go (both_parts ts us) (sizes_parts ts us (a + 1) (b + 1) (let h : suc (part_count ts) ≡ suc (part_count us) = e in omega arith) d.1 f.1)
+      go (both_parts ts us) (sizes_parts ts us (a + 1) (b + 1) (let h : suc (part_count ts) ≡ suc (part_count us) = e in
+      omega arith) d.1 f.1)
     where
       go : (o : Option (List Pair)) → SameAlike p m (Some (pairs_after m (a + 1) (b + 1) (part_count ts))) o → SameAlike p m
           (Some ((m (a + 1), m (b + 1)) ∷ pairs_after m (a + 1) (b + 1) (part_count ts)))
@@ -131,7 +132,8 @@ module _ (p : Naming) (m : Memory) (names : Names p m) where
       go : (t : Bool) → nat_eq (m d.0) (m f.0) ≡ t
           → SameAlike p m (cond t (Some (pairs_after m d.0 f.0 (count_of (decoded (m d.0))))) None) (both_parts ts us)
       go true i =
-          let h : Some (cell.Raw (part_count ts)) ≡ Some (cell.Raw (part_count us)) = sym d.2 ∙ (ap decoded (eqb-true (m d.0) (m f.0) i) ∙ f.2) in
+          let h : Some (cell.Raw (part_count ts)) ≡ Some (cell.Raw (part_count us)) = sym d.2
+          ∙ (ap decoded (eqb-true (m d.0) (m f.0) i) ∙ f.2) in
           let k : cell.Raw (part_count ts) ≡ cell.Raw (part_count us) = cc in
           subst (λ (c : ℕ). SameAlike p m (Some (pairs_after m d.0 f.0 c)) (both_parts ts us)) (sym n)
           (sizes_parts ts us d.0 f.0 (raw_size (part_count ts) (part_count us) k) d.4 f.4)

@@ -7,3 +7,6 @@ pub mod BindingsInWords
 pub mod PairsInWords
 pub mod UnifyInWords
 pub mod NamedInWords
+pub mod NamesOfPlaces
+pub mod TermsOfWords
+pub mod PlacesOfTries

@@ -13,6 +13,7 @@ use Rattle.heap_words.specs.declared.cell.Cell.TheVariants as cell
 use Rattle.heap_words.proofs.Encodings.{encoded_decoded}
 use Rattle.ro_unify.specs.Alike.{same_atoms, same_wides, wide_of}
 use Rattle.word_states.specs.Numbers.{bits, low_bits, IsLong}
+use Rattle.word_states.proofs.OneTerm.{bits_apart}
 use Rattle.unify_terms.specs.Denotes.{NumberIn, IsNumber}
 
 -- words of two cells differ, and a cell has one word
@@ -44,12 +45,6 @@ low_apart (pos n) (pos k) s t e = ap pos e
 low_apart (pos n) (negsuc k) s t e = absurd (omega (arith, ints, s, t, e))
 low_apart (negsuc n) (pos k) s t e = absurd (omega (arith, ints, s, t, e))
 low_apart (negsuc n) (negsuc k) s t e = ap negsuc (omega (arith, ints, s, t, e))
-
-bits_apart : (y z : ℤ) → IsLong y → IsLong z → bits y ≡ bits z → y ≡ z
-bits_apart (pos n) (pos k) s t e = ap pos e
-bits_apart (pos n) (negsuc k) s t e = absurd (omega (arith, s, t, e))
-bits_apart (negsuc n) (pos k) s t e = absurd (omega (arith, s, t, e))
-bits_apart (negsuc n) (negsuc k) s t e = ap negsuc (omega (arith, s, t, e))
 
 upper_same : (h k a b : ℕ) → a < 0x100000000000000 → b < 0x100000000000000 → h * 0x100000000000000 + a ≡ k * 0x100000000000000 + b
     → (h ≡ k) × (a ≡ b)

@@ -49,7 +49,8 @@ module _ (p : Naming) (m : Memory) where
     Denotes nil w = decoded w ≡ Some cell.Nil
     Denotes (cons t u) w = (a : ℕ) × (decoded w ≡ Some (cell.Cons a)) × Denotes t (m a) × Denotes u (m (a + 1))
     Denotes (tuple ts) w =
-        (a : ℕ) × (decoded w ≡ Some (cell.Tuple a)) × (decoded (m a) ≡ Some (cell.Raw (part_count ts))) × (part_count ts < 66) × DenotesAll ts a
+        (a : ℕ) × (decoded w ≡ Some (cell.Tuple a)) × (decoded (m a) ≡ Some (cell.Raw (part_count ts))) × (part_count ts < 66)
+        × DenotesAll ts a
     Denotes (var v) w = (a : ℕ) × (decoded w ≡ Some (cell.Ref a)) × IsPlace a v
     Denotes (ro v) w = (a : ℕ) × (decoded w ≡ Some (cell.RoRef a)) × IsPlace a v
     Denotes (first k) w = ⊥

@@ -8,6 +8,7 @@ ghost use Rattle.ro_unify.specs.Alike.{Both};
 ghost use Rattle.ro_unify.specs.Unify.{ending};
 ghost use Rattle.ro_unify.specs.Walks.{Tame};
 ghost use Rattle.unify_terms.specs.Denotes.{AreUnified};
+ghost use Rattle.unify_terms.specs.WordsOfTries.{AStateIsSeen, ATryIsNamed, AllIsSeen, AllIsSaid};
 
 use fcp_model::NoMemory;
 use heap_words::{Trail, Words};
@@ -34,3 +35,11 @@ pub fn unify_words<W: Words>(
     let end = unify(lists, trail, words, pairs)?;
     Ok(end)
 }
+
+/// What unification sees of the words of a state or of a try is what they say. This does nothing: its contract is the law.
+pub fn words_of_tries()
+    ensures state { AStateIsSeen }
+    ensures tries { ATryIsNamed }
+    ensures seen { AllIsSeen }
+    ensures said { AllIsSaid }
+{}

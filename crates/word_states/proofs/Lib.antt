@@ -1,0 +1,4 @@
+pub mod Lists
+pub mod Persisting
+pub mod OneTerm
+pub mod Pieces

@@ -16,13 +16,16 @@ use Rattle.word_states.specs.Standing.{Book, StandsAt, ProcessAt, PlaceAt, Proce
 
 -- a waiting entry at e: the process at p, the number n, the link to l
 pub record EntryAt (w : Words) (e p n l : ℕ) : Type 0 where
+  -- it does not stand at address 0, which is none
   pub above : 0 < e
+  -- its three words
   pub process : At w e (Raw p)
   pub number : At w (e + 1) (Small (pos n))
   pub link : LinkSays w (e + 2) l
 
 -- The hang of the process x at p on the places ps: the words w become w'.
 pub record HangEffect (book : Book) (s : State) (p : ℕ) (x : Process) (ps : List Place) (w w' : Words) : Type 0 where
+  -- final words stay, and the process is one of the state
   pub grows : Grows w w'
   pub parent : ProcessAt book s p x
   -- its status has the number of the entry, and the other statuses are as before
@@ -40,6 +43,7 @@ pub record HangEffect (book : Book) (s : State) (p : ℕ) (x : Process) (ps : Li
 -- `fresh` and the children at `born`.
 pub record CommitEffect (book : Book) (fresh : Addresses) (born : List ℕ) (s : State) (p : ℕ) (x : Process) (c : Option Clause)
     (bs : Bindings) (w w' : Words) : Type 0 where
+  -- final words stay, the process is one of the state, and it is finished
   pub grows : Grows w w'
   pub parent : ProcessAt book s p x
   pub done : At w' p (cell.Status stand.Done)

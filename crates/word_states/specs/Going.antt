@@ -16,8 +16,10 @@ AllAt book s _ _ = ⊥
 
 -- In the state s the entry is legal, and the words w' stand for the state after it.
 pub record Goes (m : Program) (s : State) (e : Entry) (w' : Words) : Type 0 where
+  -- the event of the entry, by some number of steps
   pub steps : ℕ
   pub event : Event
   pub legal : next steps m s e ≡ Some event
+  -- the words stand for the state after it
   pub book : Book
   pub stands : StandsFor book w' event.after

@@ -1,7 +1,7 @@
 -- Where the words that a try writes lead: by what was read, and by its own pieces, whatever the store's other words are.
 use Rattle.std.specs.Prelude.{◌≡◌, ◌⊎◌, ℕ, ◌+◌, ◌<◌, ◌≤◌, true, List, Some}
 use Rattle.heap_words.specs.Cells.{decoded, is_final_word}
-use Rattle.heap_words.specs.Refers.{Refers, teller, RefersBy}
+use Rattle.heap_words.specs.Refers.{Refers, HasPart, teller, RefersBy}
 use Rattle.heap_words.specs.WordsLaws.{tells_all}
 use Rattle.heap_words.specs.Trails.{WordList, word_at}
 use Rattle.heap_words.specs.declared.cell.Cell.{Cell}
@@ -19,10 +19,11 @@ pub data IsKnown (reads : WordList) (b : ℕ) : Type 0 where
       → decoded y ≡ Some (Raw n) → RefersBy n c b → IsKnown reads b
   of_process : (p x : ℕ) (d : Stand) → Among reads (p, x) → decoded x ≡ Some (Status d) → p < b → b ≤ p + 3 → IsKnown reads b
 
--- A word leads to the store's words: it was read, or it refers by itself alone, and to known addresses.
+-- A word leads to the store's words: it was read, or it refers by itself alone, to known addresses, and as to parts to none.
 pub data IsLed (reads : WordList) (x : ℕ) : Type 0 where
   was_read : (a : ℕ) → Among reads (a, x) → IsLed reads x
-  of_known : ((c : Cell) → decoded x ≡ Some c → tells_all c × ((b : ℕ) → Refers c b → IsKnown reads b)) → IsLed reads x
+  of_known : ((c : Cell) → decoded x ≡ Some c → tells_all c × ((b : ℕ) → HasPart c b → ⊥) × ((b : ℕ) → Refers c b → IsKnown reads b))
+      → IsLed reads x
 
 -- a word leads to the store's words, or to a piece
 abbrev pub LeadsOn : WordList → List (List ℕ) → ℕ → Type 0

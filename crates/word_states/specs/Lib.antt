@@ -5,9 +5,11 @@ pub mod Standing
 pub mod Pieces
 pub mod Led
 pub mod Tame
+pub mod Formed
 pub mod Trials
 pub mod Waking
 pub mod Layouts
 pub mod Planning
+pub mod Writing
 pub mod Effects
 pub mod Going

@@ -3,6 +3,7 @@ use Rattle.std.specs.Prelude.{◌≡◌, ◌⊎◌, ◌↔◌, ℕ, ◌+◌, ◌
 use Rattle.fcp_model.specs.declared.run.Place.{Place}
 use Rattle.fcp_model.specs.Places.{Variable, made, own, is_same_process, is_listed}
 use Rattle.fcp_model.specs.Terms.{Term, Bindings, find}
+use Rattle.fcp_model.specs.Reads.{BindsPlaces}
 use Rattle.fcp_model.specs.States.{Status, ready, waiting, finished, Process, State}
 use Rattle.heap_words.specs.Cells.{decoded}
 use Rattle.heap_words.specs.Trails.{WordList}
@@ -60,7 +61,9 @@ StatusSays limit x (waiting ps) = (n : ℕ) × (decoded x ≡ Some (cell.Status 
 
 -- the words from p on are those of a process: its status, its name, its goal
 pub record ProcessSays (w : Words) (vs : Addresses) (limit p : ℕ) (q : Process) : Type 0 where
+  -- its status stands at its address
   pub status : (x : ℕ) × (w p ≡ Some x) × StatusSays limit x q.status
+  -- then its name, and its goal
   pub name : At w (p + 1) (Small (pos (name_code q.name.entry q.name.number)))
   pub goal : GoalSays w vs p q.goal
 
@@ -71,7 +74,9 @@ StandsAt _ _ p x = ⊥
 
 -- where the places and the processes of a state have their words, in the state's order
 pub record Book : Type 0 where
+  -- its places
   pub places : Addresses
+  -- its processes
   pub processes : List ℕ
 
 -- the process of the state has its words at the address
@@ -108,6 +113,8 @@ pub record StandsFor (book : Book) (w : Words) (s : State) : Type 0 where
   -- processes wait on unbound places of the state
   pub waits : (p : ℕ) (x : Process) (ps : List Place) (j : Place) → ProcessAt book s p x → x.status ≡ waiting ps
       → is_listed j ps ≡ true → ((a : ℕ) × PlaceAt book j a) × (find s.bound (made j) ≡ None)
+  -- places alone are bound
+  pub own_free : BindsPlaces s.bound
   -- no name has an entry above the number of entries
   pub dated_places : (j : Place) (a : ℕ) → PlaceAt book j a → j.entry ≤ s.entries
   pub dated_bound : (j : Place) (t : Term Variable) → find s.bound (made j) ≡ Some t → j.entry ≤ s.entries

@@ -8,38 +8,33 @@ use Rattle.fcp_model.specs.Decisions.{commits, decides_fail, waits_on, Decides}
 use Rattle.fcp_model.specs.Reads.{BindsPlaces}
 use Rattle.fcp_model.specs.Cells.{clause_used}
 use Rattle.fcp_model.specs.Events.{vars_of, body_of}
-use Rattle.heap_words.specs.Cells.{decoded}
-use Rattle.heap_words.specs.Refers.{Refers, teller, RefersBy}
 use Rattle.heap_words.specs.Trails.{WordList, word_at}
-use Rattle.heap_words.specs.declared.cell.Cell.{Cell}
-use Rattle.heap_words.specs.declared.cell.Cell.TheVariants.{Raw}
 use Rattle.word_states.specs.Words.{Words, Among, AreApart, IsIn, AreDistinct}
 use Rattle.word_states.specs.Denoting.{Addresses, Listed, Denotes, GoalSays}
 use Rattle.word_states.specs.Standing.{PlacesStand, FreshSays}
 use Rattle.word_states.specs.Pieces.{rows, place_words, process_words, numbered, with_own, with_variables, ChildrenSay}
 use Rattle.word_states.specs.Led.{AreLed, ReadsPlace}
 use Rattle.word_states.specs.Tame.{IsTame}
-
--- a word of the store refers to words of the store alone
-pub record IsOld (w : Words) (x : ℕ) : Type 0 where
-  pub refers : (b : ℕ) (c : Cell) → decoded x ≡ Some c → Refers c b → b < 4000000000
-  pub refers_by : (t y n b : ℕ) (c : Cell) → decoded x ≡ Some c → teller c ≡ Some t → w t ≡ Some y → decoded y ≡ Some (Raw n)
-      → RefersBy n c b → b < 4000000000
+use Rattle.word_states.specs.Formed.{IsOld}
 
 -- The words have those that were read, they stand for bindings, and the process at p has the goal.
 pub record IsTried (read : WordList) (p : ℕ) (w : Words) (vs : Addresses) (bound : Bindings) (g : Goal Variable) : Type 0 where
+  -- they have what was read
   pub has : (a x : ℕ) → word_at read a ≡ Some x → w a ≡ Some x
-  -- all of them are the store's
+  -- all of them are the store's, and refer to its words alone
   pub low : (a x : ℕ) → w a ≡ Some x → a < 4000000000
   pub old : (a x : ℕ) → w a ≡ Some x → IsOld w x
+  -- they stand for the bindings
   pub says : PlacesStand w vs bound
   -- no variable of a clause that is tried is bound yet
   pub own_free : BindsPlaces bound
+  -- the process at p has the goal
   pub goal : GoalSays w vs p g
 
 -- Over these words, which stand for these bindings, the goal commits by clause k; the bindings and the pieces say what the try did.
 pub record CommitSays (m : Program) (w : Words) (vs : Addresses) (bound : Bindings) (g : Goal Variable) (k : ℕ) (binds : WordList)
     (ps : List (List ℕ)) : Type 0 where
+  -- what the definitions decide for the goal
   pub bindings : Bindings
   pub reads : List Variable
   pub decides : Decides m bound g (commits k bindings reads)
@@ -50,52 +45,65 @@ pub record CommitSays (m : Program) (w : Words) (vs : Addresses) (bound : Bindin
       → (j : Place) × (t : Term Variable) × Listed vs (made j) a × (find bindings (made j) ≡ Some t)
   -- the clause's variables have their places among the pieces, in order
   pub variables : length (place_words 4000000000 ps) ≡ vars_of (clause_used m g k)
+  -- their numbers, and those of the children, fit into names
   pub few : (vars_of (clause_used m g k) < 268435455) × (length (body_of (clause_used m g k)) < 268435455)
+  -- the word of each says what it is bound to
   pub variable : (i a : ℕ) → Listed (numbered 1 (place_words 4000000000 ps)) (own i) a → (x : ℕ)
       × (word_at (rows 4000000000 ps) a ≡ Some x) × FreshSays (with_own ps w) (with_variables ps vs) x (find bindings (own i))
-  -- and so have the children
+  -- the children have theirs, in order of the body
   pub children : ChildrenSay (with_own ps w) (with_variables ps vs) (process_words 4000000000 ps) (body_of (clause_used m g k))
 
 -- the goal waits for exactly the places at these addresses, which are unbound
 pub record WaitSays (m : Program) (w : Words) (vs : Addresses) (bound : Bindings) (g : Goal Variable) (places : List ℕ) : Type 0 where
+  -- what the definitions decide for the goal
   pub reads : List Variable
   pub decides : Decides m bound g (waits_on reads)
+  -- each place of its waiting set is among them, and is unbound
   pub all : (j : Place) → is_listed j (places_among reads) ≡ true
       → (a : ℕ) × Listed vs (made j) a × IsIn a places × (find bound (made j) ≡ None)
+  -- each of them is one, and they are as many
   pub only : (a : ℕ) → IsIn a places → (j : Place) × Listed vs (made j) a × (is_listed j (places_among reads) ≡ true)
   pub count : length places ≡ length (places_among reads)
 
 -- the goal fails
 pub record FailSays (m : Program) (bound : Bindings) (g : Goal Variable) : Type 0 where
+  -- what the definitions decide for the goal
   pub reads : List Variable
   pub decides : Decides m bound g (decides_fail reads)
 
--- what was read: each address once, and of the store alone
+-- what was read, as a list
 pub record AreReads (read : WordList) : Type 0 where
+  -- each address once
   pub apart : AreApart read
+  -- of the store alone
   pub below : (a x : ℕ) → Among read (a, x) → a < 4000000000
 
--- By what it read, a trial of the process at p says: it commits by clause k.
+-- By what it read, a trial of the process at p says that this commits by clause k, with these bindings and pieces.
 pub record TriedCommit (m : Program) (read : WordList) (p k : ℕ) (binds : WordList) (ps : List (List ℕ)) : Type 0 where
+  -- wherever words have what was read, the definitions decide so
   pub says : (w : Words) (vs : Addresses) (bound : Bindings) (g : Goal Variable) → IsTried read p w vs bound g
       → CommitSays m w vs bound g k binds ps
   -- what it binds and makes leads on, and closes no cycle
   pub led : AreLed read binds ps
   pub tame : IsTame read binds ps
+  -- what was read is a list of reads
   pub reads : AreReads read
   -- each place that it binds was read as unbound, and is bound once
   pub apart : AreApart binds
   pub opened : (a x : ℕ) → Among binds (a, x) → (e : ℕ) × ReadsPlace read a e
 
--- It waits for the places at these addresses, each of which was read as unbound.
+-- By what it read, it says that the process waits for the places at these addresses.
 pub record TriedWait (m : Program) (read : WordList) (p : ℕ) (places : List ℕ) : Type 0 where
+  -- wherever words have what was read, the definitions decide so
   pub says : (w : Words) (vs : Addresses) (bound : Bindings) (g : Goal Variable) → IsTried read p w vs bound g
       → WaitSays m w vs bound g places
   pub reads : AreReads read
+  -- each place once, and each was read as unbound
   pub distinct : AreDistinct places
   pub opened : (a : ℕ) → IsIn a places → (e : ℕ) × ReadsPlace read a e
 
--- It fails.
+-- By what it read, it says that the process fails.
 pub record TriedFail (m : Program) (read : WordList) (p : ℕ) : Type 0 where
+  -- wherever words have what was read, the definitions decide so
   pub says : (w : Words) (vs : Addresses) (bound : Bindings) (g : Goal Variable) → IsTried read p w vs bound g → FailSays m bound g
   pub reads : AreReads read

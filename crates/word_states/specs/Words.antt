@@ -1,5 +1,5 @@
 -- Words by address, and lists of words with their addresses.
-use Rattle.std.specs.Prelude.{◌≡◌, ℕ, suc, ◌⊎◌, true, List, [], ◌∷◌, Option, Some, None}
+use Rattle.std.specs.Prelude.{◌≡◌, ℕ, suc, ◌⊎◌, true, List, [], ◌∷◌, map, Option, Some, None}
 use Rattle.heap_words.specs.Cells.{decoded, is_final_word}
 use Rattle.heap_words.specs.Trails.{WordList, word_at}
 use Rattle.heap_words.specs.declared.cell.Cell.{Cell}
@@ -38,6 +38,14 @@ over ws w a = first_of (word_at ws a) (w a)
 abbrev pub Among : WordList → ℕ × ℕ → Type 0
 Among [] x = ⊥
 Among (y ∷ ys) x = (y ≡ x) ⊎ Among ys x
+
+-- the words have all those of a list
+abbrev pub HasAll : WordList → Words → Type 0
+HasAll xs w = (a x : ℕ) → Among xs (a, x) → w a ≡ Some x
+
+-- the addresses of a list
+abbrev pub addresses_of : WordList → List ℕ
+addresses_of xs = map (λ (x : ℕ × ℕ). x.0) xs
 
 -- a list has no address twice
 abbrev pub AreApart : WordList → Type 0

@@ -1,0 +1,12 @@
+pub mod Applied
+pub mod Known
+pub mod Heaps
+pub mod LaidCommits
+pub mod Closing
+pub mod Ranking
+pub mod Relaying
+pub mod Ordering
+pub mod Commits
+pub mod LaidHangs
+pub mod HangClosing
+pub mod Hangs

@@ -1,0 +1,4 @@
+pub mod Closed
+pub mod Sound
+pub mod EntryWrites
+pub mod Laws
