@@ -19,7 +19,7 @@ use Rattle.goal_layout.specs.PieceSizes.{term_sizes}
 use Rattle.goal_layout.specs.Pages.{rooms, ArePages, Takes}
 use Rattle.goal_layout.specs.Laying.{IsBlank, IsSaid, Lays, settled_term}
 use Rattle.goal_layout.proofs.Insides.{not_inside}
-use Rattle.goal_layout.proofs.Persisting.{denotes_on, denotes_final}
+use Rattle.word_states.proofs.Persisting.{denotes_on, denotes_final}
 use Rattle.goal_layout.proofs.Leaves.{taken_blank}
 use Rattle.goal_layout.proofs.Lays.{first_fit-append, zero_moves, top_quiet, final_off, kept_word, lays_grows, said_on, take_lays, lays_then, blank_on, written_inside, written_other, written_word, written_pages, written_rooms, written_grows, lays_written}
 

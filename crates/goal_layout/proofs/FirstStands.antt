@@ -21,7 +21,7 @@ use Rattle.word_states.specs.Denoting.{Addresses, Listed, Arguments, GoalSays}
 use Rattle.word_states.specs.Standing.{PlacesStand, ProcessSays, StandsAt, Book, StandsFor, Hangs, variable_code}
 use Rattle.goal_layout.specs.Laying.{places_of, settled_term}
 use Rattle.goal_layout.specs.Items.{new_process, settled_goal}
-use Rattle.goal_layout.proofs.Persisting.{one_cell}
+use Rattle.word_states.proofs.Persisting.{one_cell}
 use Rattle.goal_layout.proofs.Heaping.{AreLaid, laid_heap, laid_status}
 use Rattle.goal_layout.proofs.FirstPlaces.{listed_number, place_names}
 use Rattle.goal_layout.proofs.FirstProcesses.{AreAt, are_count, count_processes, one_of, IsAt, stands_is, stands_says, in_stands, one_position}
@@ -195,6 +195,7 @@ module _ (vars : ℕ) (few : vars ≤ 250) (gs : List (Goal ℕ)) (n : ℕ) (bas
             (λ e. let ra = r.4 in let tb = t.4 in let k : r.0 ≡ t.0 = omega (arith, ra, tb, e) in r.3 ∙ ap (placed 0) k ∙ sym t.3),
           );
     };
+    own_free = λ k. refl;
     process = λ p x h. stands_says w vs 1 procs gs p x each h;
     statuses = λ a d t. in_stands procs qs a counts (laid_status ws vs procs are_laid a t.0 d t.1 t.2);
     lists = λ j a e l t. ([], unbound_zero j a e l t);

@@ -29,7 +29,7 @@ use Rattle.goal_layout.specs.Laying.{IsQuiet, IsSaid, places_of}
 use Rattle.goal_layout.specs.Items.{LaysItem, new_process, settled_goal}
 use Rattle.goal_layout.specs.Goals.{LaysPlaces}
 use Rattle.goal_layout.proofs.Lays.{first_fit-append, top_word, final_off, kept_word, said_on}
-use Rattle.goal_layout.proofs.Persisting.{at_on, process_on, one_cell}
+use Rattle.word_states.proofs.Persisting.{at_on, process_on, one_cell}
 use Rattle.goal_layout.proofs.Heaping.{Sort, AreLaid, laid_heap, laid_status}
 use Rattle.goal_layout.proofs.FirstPlaces.{listed_number, place_names}
 use Rattle.goal_layout.proofs.FirstProcesses.{AreAt, are_more, are_count, count_processes, one_of, IsAt, stands_is, stands_says, in_stands, one_position, in_left, in_last, in_either, distinct_more}

@@ -21,7 +21,7 @@ use Rattle.goal_layout.specs.Pages.{rooms, ArePages}
 use Rattle.goal_layout.specs.Laying.{IsQuiet, is_quiet, IsSaid, Lays, Fills}
 use Rattle.goal_layout.specs.Items.{process_words, LaysProcess, LaysHeaded}
 use Rattle.goal_layout.proofs.Insides.{not_inside, first_inside}
-use Rattle.goal_layout.proofs.Persisting.{denotes_on}
+use Rattle.word_states.proofs.Persisting.{denotes_on}
 use Rattle.goal_layout.proofs.Lays.{first_fit-append, final_off, kept_word, said_on}
 
 -- each word is said

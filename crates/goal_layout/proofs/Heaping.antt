@@ -6,7 +6,7 @@ use Rattle.std.proofs.lemmas.Option.{same_Some, cond_some}
 use Rattle.fcp_model.specs.Places.{Variable}
 use Rattle.fcp_model.specs.Expressions.{Expr}
 use Rattle.heap_words.specs.Cells.{decoded, is_final_word, is_final_cell, is_final_in}
-use Rattle.heap_words.specs.Refers.{Refers, Reaches, reaches_refers, HasPart, teller, RefersBy, HasPartBy, parts}
+use Rattle.heap_words.specs.Refers.{Refers, Reaches, reaches_refers, HasPart, teller, RefersBy, reaches_by_refers, HasPartBy, parts}
 use Rattle.heap_words.specs.WordsLaws.{Acyclic, tells_all}
 use Rattle.heap_words.specs.Heaps.{IsHeap, RefersInside, is_inside, inside_at, only_final, final_at}
 use Rattle.heap_words.specs.HeapLaws.{inside_known, plain_inside}
@@ -18,7 +18,7 @@ use Rattle.word_states.specs.Words.{Words, At, IsIn}
 use Rattle.word_states.specs.Denoting.{Addresses, Listed, ExprSays}
 use Rattle.goal_layout.specs.Pages.{ArePages}
 use Rattle.goal_layout.specs.Laying.{IsQuiet, is_quiet, IsSaid}
-use Rattle.goal_layout.proofs.Persisting.{expr_final}
+use Rattle.word_states.proofs.Persisting.{expr_final}
 use Rattle.goal_layout.proofs.Weights.{expr_weight, some_expr_weight, one_weight}
 use Rattle.goal_layout.proofs.Views.{is_constant, Child, View, constant, wide, place, pair, group, view}
 use Rattle.goal_layout.proofs.Quiet.{same_cell, quiet_refers, quiet_part, quiet_tells, constant_refers, constant_part, constant_tells}
@@ -262,10 +262,7 @@ module _ (ws : List ℕ) (vs : Addresses) (procs : List ℕ) (h : AreLaid ws vs 
     view_falls : View w vs x m → (b : ℕ) → Reaches c b → (rank b < m) × (refers_on (Some c) ≡ true)
     view_falls (constant d q k) b r =
         absurd (constant_refers c b (subst (λ z. is_constant z ≡ true) (same_cell x d c q is) k) (reaches_refers c b r))
-    view_falls (wide a u low q t) b r =
-        let e : c ≡ Wide a u = same_cell x c (Wide a u) is q in
-        let s : b ≡ a = subst (λ z. Reaches z b) e r in
-        (omega (arith, ap rank s, cell_rank a (Small low) t refl, some), ap (λ z. refers_on (Some z)) e)
+    view_falls (wide a u low q t) b r = absurd (subst (λ z. Reaches z b) (same_cell x c (Wide a u) is q) r)
     view_falls (place a v (inl q) l) b r =
         let e : c ≡ Ref a = same_cell x c (Ref a) is q in
         let s : b ≡ a = subst (λ z. Reaches z b) e r in
@@ -282,10 +279,7 @@ module _ (ws : List ℕ) (vs : Addresses) (procs : List ℕ) (h : AreLaid ws vs 
               (subst (λ z. Reaches z b) e r),
           ap (λ z. refers_on (Some z)) e,
         )
-    view_falls (group k n q t f) b r =
-        let e : c ≡ Tuple k = same_cell x c (Tuple k) is q in
-        let s : b ≡ k = subst (λ z. Reaches z b) e r in
-        (omega (arith, ap rank s, cell_rank k (Raw n) t refl, some), ap (λ z. refers_on (Some z)) e)
+    view_falls (group k n q t f) b r = absurd (subst (λ z. Reaches z b) (same_cell x c (Tuple k) is q) r)
 
   rank_above : (a b x : ℕ) (c : Cell) → inside_at ws a ≡ Some x → decoded x ≡ Some c
       → ((e : Expr Variable) → ExprSays w vs x e → (rank b < expr_weight e) × (refers_on (Some c) ≡ true))
@@ -308,11 +302,22 @@ module _ (ws : List ℕ) (vs : Addresses) (procs : List ℕ) (h : AreLaid ws vs 
         (λ s. subst (λ z. Reaches z b) (same_cell x c (Status Ready) d s) r);
     falls_by = λ a b x t y n c e d tells at raw by. rank_above a b x c (final_inside a x e).0 d
         (λ k says.
-        let v = view_tells x (expr_weight k) c d (view w vs x k says) t y n b tells (final_inside t y at).0 raw by in
+        let v = view_tells x (expr_weight k) c d (view w vs x k says) t y n b tells (final_inside t y at).0 raw (reaches_by_refers n c b by) in
         (child_rank b (expr_weight k) v.1, ap (λ z. refers_on (Some z)) v.0))
         (λ q. let z : None ≡ Some t = sym (quiet_tells q.cell q.quiet) ∙ ap teller (same_cell x q.cell c q.says d) ∙ tells in cc)
         (λ s. let z : None ≡ Some t = ap teller (same_cell x (Status Ready) c s d) ∙ tells in cc);
+    order = λ a. 0;
+    links = λ a c x y n e d at raw. absurd (no_link a c x y n (h.all a x (final_inside a x e).0) d (final_inside c y at).0 raw);
   }
+    where
+      -- no waiting entry is laid
+      no_link : (a c x y n : ℕ) → Sort ws vs procs a x → decoded x ≡ Some (Cons c) → inside_at ws c ≡ Some y → decoded y ≡ Some (Raw n) → ⊥
+      no_link a c x y n (inl (inl q)) d at raw =
+          let z : is_quiet (Cons c) ≡ true = subst (λ k. is_quiet k ≡ true) (same_cell x q.cell (Cons c) q.says d) q.quiet in cc
+      no_link a c x y n (inr s) d at raw = let z : Status Ready ≡ Cons c = same_cell x (Status Ready) (Cons c) s.1 d in cc
+      no_link a c x y n (inl (inr s)) d at raw =
+          let v = view_tells x (expr_weight s.0) (Cons c) d (view w vs x s.0 s.1) c y n n refl at raw (inl refl) in
+          let z : Cons c ≡ Tuple c = v.0 in cc
 
   pub laid_heap : IsHeap ws
   laid_heap = record {

@@ -20,7 +20,7 @@ use Rattle.goal_layout.specs.Pages.{room, rooms_from, rooms, ArePages, Takes}
 use Rattle.goal_layout.specs.Laying.{IsQuiet, is_quiet, IsSaid, Lays, IsBlank}
 use Rattle.goal_layout.proofs.Insides.{inside_word, same_inside, same_inside_at, first_inside}
 use Rattle.goal_layout.proofs.Fits.{same_rooms}
-use Rattle.goal_layout.proofs.Persisting.{expr_on}
+use Rattle.word_states.proofs.Persisting.{expr_on}
 
 -- pieces one after another
 pub first_fit-append : (rs xs ys : List ℕ) → first_fit rs (xs ++ ys) ≡ option_and_then (λ ss. first_fit ss ys) (first_fit rs xs)

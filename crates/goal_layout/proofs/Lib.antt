@@ -1,7 +1,6 @@
 pub mod Insides
 pub mod Fits
 pub mod Taking
-pub mod Persisting
 pub mod Lays
 pub mod Leaves
 pub mod Chains

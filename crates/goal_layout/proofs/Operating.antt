@@ -20,7 +20,7 @@ use Rattle.goal_layout.specs.FirstFit.{fit, first_fit}
 use Rattle.goal_layout.specs.PieceSizes.{expr_sizes}
 use Rattle.goal_layout.specs.Pages.{rooms, ArePages, Takes}
 use Rattle.goal_layout.specs.Laying.{IsBlank, IsNarrowExpr, IsNarrow, Lays, LaysTerm, LaysExpr, places_of, settled_expr}
-use Rattle.goal_layout.proofs.Persisting.{at_on, expr_on, expr_final}
+use Rattle.word_states.proofs.Persisting.{at_on, expr_on, expr_final}
 use Rattle.goal_layout.proofs.Leaves.{taken_blank}
 use Rattle.goal_layout.proofs.Lays.{first_fit-append, take_lays, lays_then, lays_grows, blank_on, written_word, written_other, written_pages, written_grows, lays_written}
 use Rattle.goal_layout.proofs.Listing.{LaysAlways}

@@ -13,7 +13,7 @@ use Rattle.goal_layout.specs.PieceSizes.{term_sizes, expr_sizes, goal_sizes}
 use Rattle.goal_layout.specs.Pages.{rooms, ArePages}
 use Rattle.goal_layout.specs.Laying.{Lays, LaysTerm, LaysExpr, IsSaid, places_of, settled_term, settled_expr}
 use Rattle.goal_layout.specs.Items.{LaysProcess, LaysHeaded, LaysUnify, LaysAssign}
-use Rattle.goal_layout.proofs.Persisting.{denotes_on, expr_on}
+use Rattle.word_states.proofs.Persisting.{denotes_on, expr_on}
 use Rattle.goal_layout.proofs.Lays.{first_fit-append, lays_then, lays_grows, said_on}
 use Rattle.goal_layout.proofs.Listing.{LaysAlways}
 use Rattle.goal_layout.proofs.Operating.{LaysExprAlways}

@@ -20,7 +20,7 @@ use Rattle.goal_layout.specs.FirstFit.{fit, first_fit}
 use Rattle.goal_layout.specs.PieceSizes.{term_sizes, part_sizes}
 use Rattle.goal_layout.specs.Pages.{rooms, ArePages, Takes}
 use Rattle.goal_layout.specs.Laying.{IsBlank, IsNarrow, AreNarrow, Lays, LaysTerm, places_of, parts_of, settled_term}
-use Rattle.goal_layout.proofs.Persisting.{at_on, arguments_on, denotes_on}
+use Rattle.word_states.proofs.Persisting.{at_on, arguments_on, denotes_on}
 use Rattle.goal_layout.proofs.Leaves.{taken_blank}
 use Rattle.goal_layout.proofs.Lays.{first_fit-append, take_lays, lays_then, lays_grows, blank_on, written_word, written_other, written_grows, lays_written}
 use Rattle.goal_layout.proofs.Listing.{LaysAlways}
