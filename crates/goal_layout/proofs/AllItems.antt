@@ -1,12 +1,12 @@
 -- The loop over a goal's items.
-use Rattle.std.proofs.Common.{◌≡◌, ℕ, zero, suc, ◌+◌, ◌*◌, ◌/◌, ◌<◌, ◌≤◌, List, [], ◌∷◌, ◌++◌, length, map, get_or, slice_get, Option, Some, None, refl, sym, ap, ◌∙◌, subst, arith, drop_of_length-le}
+use Rattle.std.proofs.Common.{◌≡◌, ℕ, zero, suc, ◌+◌, ◌*◌, ◌/◌, ◌<◌, ◌≤◌, List, [], ◌∷◌, ◌++◌, length, get_or, slice_get, Some, None, refl, sym, ap, ◌∙◌, subst, arith, drop_of_length-le}
 use Rattle.std.specs.Prelude.{replicate, sum}
 use Rattle.std.specs.List.{flat_map}
 use Rattle.std.specs.Option.{option_and_then}
 use Rattle.std.proofs.lemmas.List.{length-map, get_or-map}
 use Rattle.std.proofs.lemmas.List.Sums.{sum_by-cons}
 use Rattle.std.proofs.lemmas.Grind.{same_number_lists}
-use Rattle.std.proofs.lemmas.Option.{get_or_from_slice_get, slice_get_within}
+use Rattle.std.proofs.lemmas.Option.{get_or_from_slice_get}
 use Rattle.fcp_model.specs.declared.source.Call.{Call}
 use Rattle.fcp_model.specs.declared.source.Item.{Item}
 use Rattle.fcp_model.specs.declared.source.GoalText.{GoalText}
@@ -14,13 +14,12 @@ use Rattle.fcp_model.specs.declared.source.Module.{Module}
 use Rattle.fcp_model.specs.ProcedureNames.{procedure_names}
 use Rattle.fcp_model.specs.Goals.{number_of_item}
 use Rattle.fcp_model.specs.Programs.{Goal}
-use Rattle.fcp_model.specs.Translation.{goal_of, started_goals, start_of}
+use Rattle.fcp_model.specs.Translation.{goal_of, started_goals}
 use Rattle.fcp_model.specs.ClosedPrograms.{GoalOver, GoalsOver, IsNumbered}
 use Rattle.fcp_model.proofs.GoalNumbers.{number_at}
-use Rattle.heap_words.specs.Heaps.{AreFresh, fresh_word, top_at, inside_at}
-use Rattle.word_states.specs.Standing.{StandsFor}
+use Rattle.heap_words.specs.Heaps.{AreFresh, fresh_word}
 use Rattle.goal_layout.specs.FirstFit.{first_fit}
-use Rattle.goal_layout.specs.PieceSizes.{goal_sizes, sizes_of}
+use Rattle.goal_layout.specs.PieceSizes.{goal_sizes}
 use Rattle.goal_layout.specs.Pages.{room, rooms_from, rooms, ArePages}
 use Rattle.goal_layout.specs.Items.{IsNarrowGoal, IsNumberIn, IsLayable, LaysItem, called}
 use Rattle.goal_layout.specs.Goals.{AreNew, AreNarrowGoals, IsLaidIn, LaysPlaces, LaysGoal, goal_pieces}

@@ -1,7 +1,7 @@
 -- Words one after another that denote terms.
-use Rattle.std.proofs.Common.{◌≡◌, ℕ, zero, suc, ◌+◌, ◌<◌, ◌≤◌, List, [], ◌∷◌, ◌++◌, length, map, Option, Some, None, refl, sym, ap, ◌∙◌, subst, arith}
+use Rattle.std.proofs.Common.{◌≡◌, ℕ, suc, ◌+◌, List, [], ◌∷◌, ◌++◌, length, map, Some, refl, ap, subst, arith}
 use Rattle.fcp_model.specs.Places.{Variable}
-use Rattle.fcp_model.specs.Terms.{Term, Terms, none, more, rename, renames}
+use Rattle.fcp_model.specs.Terms.{Term, more, rename, renames}
 use Rattle.fcp_model.specs.Translation.{terms_of}
 use Rattle.word_states.specs.Words.{Words}
 use Rattle.word_states.specs.Numbers.{part_count}

@@ -1,33 +1,31 @@
 -- A process with its arguments is the process of an item.
-use Rattle.std.proofs.Common.{◌≡◌, ℕ, zero, suc, ◌+◌, ◌*◌, ◌<◌, ◌≤◌, pos, Bool, true, false, cond, List, [], ◌∷◌, ◌++◌, length, map, Option, Some, None, refl, sym, ap, ◌∙◌, subst, arith, ◌⊎◌, inl, inr}
+use Rattle.std.proofs.Common.{◌≡◌, ℕ, zero, suc, ◌+◌, ◌<◌, ◌≤◌, pos, Bool, true, false, cond, List, [], ◌∷◌, ◌++◌, length, map, Option, Some, refl, sym, ap, ◌∙◌, subst, arith}
 use Rattle.std.specs.Prelude.{IfSome, nat_eq, nat_lt, position, ◌&&◌}
 use Rattle.std.specs.List.{position_or_len}
-use Rattle.std.proofs.lemmas.Bool.{and_from, eq-eqb, ne_eqb, ltb-true, false≢true}
+use Rattle.std.proofs.lemmas.Bool.{and_from, eq-eqb, ne_eqb, ltb-true}
 use Rattle.std.proofs.lemmas.List.{length-map}
 use Rattle.std.proofs.lemmas.Option.{cond_some, IfSome_then, same_Some}
-use Rattle.fcp_model.specs.declared.goal.TheConstants.{TRUE_PROCEDURE, UNIFY_PROCEDURE, ASSIGN_PROCEDURE}
+use Rattle.fcp_model.specs.declared.goal.TheConstants.{TRUE_PROCEDURE}
 use Rattle.fcp_model.specs.declared.names.Sym.{Sym}
 use Rattle.fcp_model.specs.declared.loaded.ProcedureName.{ProcedureName}
 use Rattle.fcp_model.specs.declared.source.Call.{Call}
-use Rattle.fcp_model.specs.declared.source.Call.TheVariants.{User, Unify, Assign}
+use Rattle.fcp_model.specs.declared.source.Call.TheVariants.{User}
 use Rattle.fcp_model.specs.declared.source.Module.{Module}
 use Rattle.fcp_model.specs.declared.term.Term as source
 use Rattle.fcp_model.specs.ProcedureNames.{procedure_names, same_procedure}
 use Rattle.fcp_model.specs.Goals.{number_of_call}
 use Rattle.fcp_model.specs.Terms.{Term}
-use Rattle.fcp_model.specs.Programs.{Goal, user, true', unifies, assigns}
+use Rattle.fcp_model.specs.Programs.{Goal, user, true'}
 use Rattle.fcp_model.specs.Translation.{name_with_arity, term_of, user_goal}
 use Rattle.fcp_model.specs.ClosedPrograms.{AllOver, GoalOver, IsNumbered}
 use Rattle.heap_words.specs.Heaps.{inside_at}
 use Rattle.heap_words.specs.declared.cell.Cell.TheVariants.{Small, Raw}
-use Rattle.word_states.specs.Words.{At}
-use Rattle.word_states.specs.Denoting.{Addresses, GoalSays}
-use Rattle.word_states.specs.Standing.{ProcessSays}
+use Rattle.word_states.specs.Denoting.{GoalSays}
 use Rattle.goal_layout.specs.FirstFit.{first_fit}
 use Rattle.goal_layout.specs.PieceSizes.{all_sizes, goal_sizes}
 use Rattle.goal_layout.specs.Pages.{rooms}
 use Rattle.goal_layout.specs.Laying.{places_of, settled_term}
-use Rattle.goal_layout.specs.Items.{IsNumberIn, LaysHeaded, LaysCall, LaysUnify, LaysAssign, LaysItem, called, new_process, settled_goal}
+use Rattle.goal_layout.specs.Items.{IsNumberIn, LaysHeaded, LaysCall, LaysItem, called, settled_goal}
 
 -- a head, and what the words after it say
 pub headed_item : (vars : ℕ) (sizes : List ℕ) (g : Goal ℕ) (k f p : ℕ) (xs ws ws' : List ℕ) → LaysHeaded (places_of vars) sizes k f xs p ws ws'

@@ -1,24 +1,23 @@
 -- The loop over a call's arguments.
-use Rattle.std.proofs.Common.{◌≡◌, ℕ, zero, suc, ◌+◌, ◌-◌, ◌<◌, ◌≤◌, List, [], ◌∷◌, ◌++◌, length, map, set, take, drop, get_or, Some, None, refl, sym, ap, ◌∙◌, subst, arith, append_assoc, append-nil, drop_of_length-le}
+use Rattle.std.proofs.Common.{◌≡◌, ℕ, zero, suc, ◌+◌, ◌<◌, ◌≤◌, List, [], ◌∷◌, ◌++◌, length, map, set, take, drop, get_or, Some, None, refl, sym, ap, ◌∙◌, subst, arith, append_assoc, append-nil, drop_of_length-le}
 use Rattle.std.specs.Option.{option_and_then}
 use Rattle.std.proofs.Math.Seq.{drop-cons}
 use Rattle.std.proofs.lemmas.List.{length-map, length-set, take_more, take_more_set, map-append, take_all, length-take-le}
 use Rattle.fcp_model.specs.declared.term.Term as source
-use Rattle.fcp_model.specs.Terms.{Term}
 use Rattle.fcp_model.specs.Translation.{term_of}
 use Rattle.fcp_model.specs.ClosedPrograms.{Over, AllOver, IsNumbered}
 use Rattle.heap_words.specs.Heaps.{inside_at}
 use Rattle.word_states.specs.Words.{Words}
-use Rattle.word_states.specs.Denoting.{Addresses, Denotes, Arguments}
+use Rattle.word_states.specs.Denoting.{Addresses, Arguments}
 use Rattle.goal_layout.specs.FirstFit.{fit, first_fit}
 use Rattle.goal_layout.specs.PieceSizes.{term_sizes, all_sizes}
 use Rattle.goal_layout.specs.Pages.{rooms, ArePages}
-use Rattle.goal_layout.specs.Laying.{IsNarrow, Lays, LaysTerm, places_of, settled_term}
+use Rattle.goal_layout.specs.Laying.{IsNarrow, Lays, places_of, settled_term}
 use Rattle.goal_layout.specs.Items.{AllNarrow, LaysProcess, LaysHeaded, LaysCall}
 use Rattle.goal_layout.proofs.Lays.{first_fit-append, lays_none, lays_then, lays_grows}
 use Rattle.goal_layout.proofs.Listing.{LaysAlways}
 use Rattle.goal_layout.proofs.Tupling.{settled_all, twice}
-use Rattle.goal_layout.proofs.Heading.{AllSaid, AllDenote, all_said, args_denote, denote_on, denote_more, denote_count, headed, headed_grows}
+use Rattle.goal_layout.proofs.Heading.{AllSaid, AllDenote, all_said, args_denote, denote_on, denote_more, headed, headed_grows}
 
 -- The words ws came from base: the pieces of the first n arguments are laid, and their words are in `found`.
 pub record Found (vs : Addresses) (ts : List source.Term) (n : ℕ) (base ws found : List ℕ) : Type 0 where

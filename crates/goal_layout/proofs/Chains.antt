@@ -1,10 +1,9 @@
 -- A list is laid pair after pair: the last pair's second word is still to be written.
-use Rattle.std.proofs.Common.{◌≡◌, ℕ, zero, suc, ◌+◌, ◌-◌, ◌*◌, ◌/◌, ◌%◌, ◌<◌, ◌≤◌, Bool, true, false, cond, List, [], ◌∷◌, ◌++◌, length, set, slice_get, Option, Some, None, refl, sym, ap, ◌∙◌, subst, arith, ◌⊎◌, inl, inr, ⊎_elim}
+use Rattle.std.proofs.Common.{◌≡◌, ℕ, suc, ◌%◌, Bool, true, false, cond, List, [], ◌∷◌, length, set, slice_get, Some, None, refl, sym, ap, ◌∙◌, subst, arith, ◌⊎◌, inl, inr, ⊎_elim}
 use Rattle.std.specs.Option.{option_and_then}
 use Rattle.std.proofs.lemmas.Bool.{cases_eq, false≢true}
 use Rattle.std.proofs.lemmas.List.{length-set}
 use Rattle.std.proofs.lemmas.Option.{same_Some}
-use Rattle.fcp_model.specs.Places.{Variable}
 use Rattle.fcp_model.specs.Terms.{Term, cons}
 use Rattle.fcp_model.specs.Expressions.{leaf}
 use Rattle.heap_words.specs.Cells.{decoded, is_final_word}
@@ -21,7 +20,7 @@ use Rattle.goal_layout.specs.Laying.{IsBlank, IsSaid, Lays, settled_term}
 use Rattle.goal_layout.proofs.Insides.{not_inside}
 use Rattle.word_states.proofs.Persisting.{denotes_on, denotes_final}
 use Rattle.goal_layout.proofs.Leaves.{taken_blank}
-use Rattle.goal_layout.proofs.Lays.{first_fit-append, zero_moves, top_quiet, final_off, kept_word, lays_grows, said_on, take_lays, lays_then, blank_on, written_inside, written_other, written_word, written_pages, written_rooms, written_grows, lays_written}
+use Rattle.goal_layout.proofs.Lays.{first_fit-append, zero_moves, top_quiet, final_off, kept_word, said_on, take_lays, lays_then, blank_on, written_inside, written_other, written_word, written_pages, written_rooms, written_grows, lays_written}
 
 -- what was in use is as before, but for tops and the word at `hole`
 abbrev pub Follows : ℕ → List ℕ → List ℕ → Type 0
@@ -115,8 +114,10 @@ chain_begins vs base w1 w2 c y x hole h t takes laid says is e =
             λ a v i ev. ⊎_elim
                 (λ m. inr (inl (top_quiet ws' a v pages ev m)))
                 (λ m. ⊎_elim
-                (λ s. inr (inr (leaf (settled_term t),
-                subst (λ k. Denotes (inside_at ws') vs k (settled_term t)) (same_Some z v (sym e ∙ sym (ap (inside_at ws') s) ∙ ev)) d)))
+                (λ s. inr (inr (
+                  leaf (settled_term t),
+                  subst (λ k. Denotes (inside_at ws') vs k (settled_term t)) (same_Some z v (sym e ∙ sym (ap (inside_at ws') s) ∙ ev)) d,
+                )))
                 (λ s. ⊎_elim (λ j. inl j) (λ j. inr (said_on (inside_at (set w2 c y)) (inside_at ws') vs v g j))
                 (p.said a v (back (set w2 c y) ws' a v i (f a i m s) ev)))
                 (cases_eq a (suc c)))
@@ -206,8 +207,10 @@ module _ (vs : Addresses) (sizes base ws w1 w2 : List ℕ) (list hole c y z : �
     newer a x n i ex = ⊎_elim
         (λ m. inl (top_quiet ws' a x pages ex m))
         (λ m. ⊎_elim
-        (λ s. inr (leaf (settled_term u),
-        subst (λ k. Denotes (inside_at ws') vs k (settled_term u)) (same_Some v x (sym e ∙ sym (ap (inside_at ws') s) ∙ ex)) d))
+        (λ s. inr (
+          leaf (settled_term u),
+          subst (λ k. Denotes (inside_at ws') vs k (settled_term u)) (same_Some v x (sym e ∙ sym (ap (inside_at ws') s) ∙ ex)) d,
+        ))
         (λ s.
         let there : inside_at w4 a ≡ Some x = back w4 ws' a x i (f a i m s) ex in
         let off_hole : a ≡ hole → ⊥ = λ q. false≢true (sym n ∙ ap (is_inside ws) q ∙ hole_inside) in

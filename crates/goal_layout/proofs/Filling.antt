@@ -1,13 +1,12 @@
 -- The words of a piece are written one after another.
-use Rattle.std.proofs.Common.{◌≡◌, ℕ, zero, suc, ◌+◌, ◌-◌, ◌%◌, ◌<◌, ◌≤◌, Bool, true, false, List, [], ◌∷◌, ◌++◌, length, set, take, get_or, slice_get, Option, Some, None, refl, sym, ap, ◌∙◌, subst, arith, ◌⊎◌, inl, inr, ⊎_elim, append_assoc}
+use Rattle.std.proofs.Common.{◌≡◌, ℕ, suc, ◌+◌, ◌%◌, ◌<◌, ◌≤◌, List, [], ◌∷◌, ◌++◌, length, set, take, get_or, Some, sym, ap, ◌∙◌, subst, arith, inl, inr, ⊎_elim, append_assoc}
 use Rattle.std.proofs.lemmas.Bool.{cases_eq, cases_lt, false≢true}
-use Rattle.std.proofs.lemmas.List.{length-set, length-append, take_more, take_all, length-take-le}
+use Rattle.std.proofs.lemmas.List.{length-set, length-append, take_more, length-take-le}
 use Rattle.heap_words.specs.Heaps.{is_inside, inside_at}
 use Rattle.heap_words.proofs.QuietHeaps.{slice_get-set_other}
 use Rattle.word_states.specs.Words.{Words, StandAt}
-use Rattle.goal_layout.specs.FirstFit.{fit}
-use Rattle.goal_layout.specs.Pages.{rooms, ArePages, Takes}
-use Rattle.goal_layout.specs.Laying.{IsQuiet, IsBlank, Fills}
+use Rattle.goal_layout.specs.Pages.{Takes}
+use Rattle.goal_layout.specs.Laying.{IsBlank, Fills}
 use Rattle.goal_layout.proofs.Insides.{same_inside_at}
 use Rattle.goal_layout.proofs.Leaves.{taken_blank}
 use Rattle.goal_layout.proofs.Lays.{top_quiet, written_inside, written_other, written_word, written_pages, written_rooms}

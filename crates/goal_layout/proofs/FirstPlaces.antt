@@ -1,10 +1,8 @@
 -- The places of a goal, and where they are.
-use Rattle.std.proofs.Common.{◌≡◌, ℕ, zero, suc, ◌+◌, ◌-◌, ◌*◌, ◌<◌, ◌≤◌, pos, List, [], ◌∷◌, map, Option, Some, None, refl, sym, ap, ◌∙◌, subst, arith, ◌⊎◌, inl, inr, ⊎_elim}
-use Rattle.fcp_model.specs.declared.run.Place.{Place}
+use Rattle.std.proofs.Common.{◌≡◌, ℕ, zero, suc, ◌+◌, ◌*◌, ◌<◌, ◌≤◌, ◌∷◌, map, refl, sym, ap, arith, inl, inr}
 use Rattle.fcp_model.specs.Places.{Variable, made, place, placed}
 use Rattle.fcp_model.specs.States.{count_up}
-use Rattle.word_states.specs.Denoting.{Addresses, Listed}
-use Rattle.goal_layout.specs.Laying.{places_of}
+use Rattle.word_states.specs.Denoting.{Listed}
 
 -- a listed place has a number, and its address is twice that
 pub listed_number : (from n : ℕ) (v : Variable) (a : ℕ) → Listed (map (λ k. (placed 0 k, 2 * k)) (count_up from n)) v a

@@ -1,26 +1,25 @@
 -- Where all items are laid, the words stand for the first state.
-use Rattle.std.proofs.Common.{◌≡◌, ℕ, zero, suc, ◌+◌, ◌-◌, ◌*◌, ◌<◌, ◌≤◌, pos, Bool, true, false, List, [], ◌∷◌, length, map, take, slice_get, Option, Some, None, refl, sym, ap, ◌∙◌, subst, arith, ◌⊎◌, inl, inr, ⊎_elim}
+use Rattle.std.proofs.Common.{◌≡◌, ℕ, zero, suc, ◌+◌, ◌-◌, ◌*◌, ◌<◌, ◌≤◌, pos, true, List, [], ◌∷◌, length, map, slice_get, Some, None, refl, sym, ap, ◌∙◌, subst, arith, ⊎_elim}
 use Rattle.std.specs.Prelude.{nat_eq}
 use Rattle.std.proofs.lemmas.Bool.{and_parts, eqb-true, cases_eq}
 use Rattle.std.proofs.lemmas.List.{length-map, take_all}
 use Rattle.std.proofs.lemmas.Option.{same_Some, slice_get_within}
 use Rattle.fcp_model.specs.declared.run.Place.{Place}
-use Rattle.fcp_model.specs.Places.{Variable, made, place, placed, proc, is_same_process, is_listed}
+use Rattle.fcp_model.specs.Places.{Variable, made, place, placed}
 use Rattle.fcp_model.specs.Terms.{Term}
 use Rattle.fcp_model.specs.Programs.{Goal, user, true', unifies, assigns}
-use Rattle.fcp_model.specs.States.{Status, ready, waiting, Process, State, start, processes_of, count_up}
+use Rattle.fcp_model.specs.States.{ready, waiting, Process, start, processes_of}
 use Rattle.heap_words.specs.Cells.{decoded}
 use Rattle.heap_words.specs.Heaps.{IsHeap, is_inside, inside_at}
 use Rattle.heap_words.specs.HeapLaws.{inside_known}
 use Rattle.heap_words.specs.Trails.{WordList}
 use Rattle.heap_words.specs.declared.cell.Cell.{Cell}
 use Rattle.heap_words.specs.declared.cell.Cell.TheVariants as cell
-use Rattle.heap_words.specs.declared.cell.Stand.{Stand}
-use Rattle.word_states.specs.Words.{Words, At, Among, IsIn}
+use Rattle.word_states.specs.Words.{Words, At, Among}
 use Rattle.word_states.specs.Denoting.{Addresses, Listed, Arguments, GoalSays}
-use Rattle.word_states.specs.Standing.{PlacesStand, ProcessSays, StandsAt, Book, StandsFor, Hangs, variable_code}
+use Rattle.word_states.specs.Standing.{StandsAt, Book, StandsFor, Hangs, variable_code}
 use Rattle.goal_layout.specs.Laying.{places_of, settled_term}
-use Rattle.goal_layout.specs.Items.{new_process, settled_goal}
+use Rattle.goal_layout.specs.Items.{settled_goal}
 use Rattle.word_states.proofs.Persisting.{one_cell}
 use Rattle.goal_layout.proofs.Heaping.{AreLaid, laid_heap, laid_status}
 use Rattle.goal_layout.proofs.FirstPlaces.{listed_number, place_names}
@@ -107,12 +106,12 @@ module _ (vars : ℕ) (few : vars ≤ 250) (gs : List (Goal ℕ)) (n : ℕ) (bas
     behind = λ p b i lo hi.
         let o = one_of w vs 1 procs gs p each i in
         let g = goal_behind p o.1 o.2.goal in ⊎_elim
-            (λ e. subst (λ k. is_inside ws k ≡ true) (sym e) (at_known (p + 1) _ o.2.name))
-            (λ d1. ⊎_elim
-            (λ e. subst (λ k. is_inside ws k ≡ true) (sym e) g.0)
-            (λ d2. subst (λ k. is_inside ws k ≡ true) (omega (arith, d1, d2, lo, hi)) g.1)
-            (cases_eq b (p + 2)))
-            (cases_eq b (p + 1));
+        (λ e. subst (λ k. is_inside ws k ≡ true) (sym e) (at_known (p + 1) _ o.2.name))
+        (λ d1. ⊎_elim
+        (λ e. subst (λ k. is_inside ws k ≡ true) (sym e) g.0)
+        (λ d2. subst (λ k. is_inside ws k ≡ true) (omega (arith, d1, d2, lo, hi)) g.1)
+        (cases_eq b (p + 2)))
+        (cases_eq b (p + 1));
     arguments = λ p y k b i e d lo hi.
         let o = one_of w vs 1 procs gs p each i in
         let g = goal_behind p o.1 o.2.goal in
@@ -166,13 +165,13 @@ module _ (vars : ℕ) (few : vars ≤ 250) (gs : List (Goal ℕ)) (n : ℕ) (bas
         let i = found p x hx in
         let j = found q y hy in (
           (λ e.
-          let parts = and_parts (nat_eq x.name.entry y.name.entry) (nat_eq x.name.number y.name.number) e in
-          let n : x.name.number ≡ y.name.number = eqb-true x.name.number y.name.number parts.1 in
-          let at : i.position ≡ j.position = omega (arith, n, ap (λ k. k.number) i.name, ap (λ k. k.number) j.name) in
-          same_Some p q (sym i.address ∙ ap (slice_get procs) at ∙ j.address)),
+              let parts = and_parts (nat_eq x.name.entry y.name.entry) (nat_eq x.name.number y.name.number) e in
+              let n : x.name.number ≡ y.name.number = eqb-true x.name.number y.name.number parts.1 in
+              let at : i.position ≡ j.position = omega (arith, n, ap (λ k. k.number) i.name, ap (λ k. k.number) j.name) in
+              same_Some p q (sym i.address ∙ ap (slice_get procs) at ∙ j.address)),
           (λ e.
-          let at : i.position ≡ j.position = one_position procs i.position j.position q s.distinct (i.address ∙ ap Some e) j.address in
-          same_Some x y (sym i.process ∙ ap (slice_get qs) at ∙ j.process)),
+              let at : i.position ≡ j.position = one_position procs i.position j.position q s.distinct (i.address ∙ ap Some e) j.address in
+              same_Some x y (sym i.process ∙ ap (slice_get qs) at ∙ j.process)),
         );
     says = record {
       is_made = λ v a l. let r = place_says v a l in let hi = r.2 in (place 0 r.0, r.3, omega (arith, hi, few));

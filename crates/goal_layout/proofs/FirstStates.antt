@@ -1,38 +1,31 @@
 -- The items are laid one after another, and then the words stand for the first state.
-use Rattle.std.proofs.Common.{◌≡◌, ℕ, zero, suc, ◌+◌, ◌-◌, ◌*◌, ◌/◌, ◌%◌, ◌<◌, ◌≤◌, pos, Bool, true, false, List, [], ◌∷◌, ◌++◌, length, map, take, drop, get_or, slice_get, Option, Some, None, refl, sym, ap, ◌∙◌, subst, arith, ◌⊎◌, inl, inr, ⊎_elim, drop_of_length-le}
-use Rattle.std.specs.Prelude.{nat_eq}
+use Rattle.std.proofs.Common.{◌≡◌, ℕ, suc, ◌+◌, ◌-◌, ◌*◌, ◌%◌, ◌<◌, ◌≤◌, pos, true, List, [], ◌∷◌, ◌++◌, length, take, drop, get_or, Some, None, refl, sym, ap, ◌∙◌, subst, arith, inl, inr, ⊎_elim}
 use Rattle.std.specs.List.{flat_map}
 use Rattle.std.specs.Option.{option_and_then}
 use Rattle.std.proofs.Math.Seq.{drop-cons}
-use Rattle.std.proofs.lemmas.Bool.{false≢true, and_parts, eqb-true}
-use Rattle.std.proofs.lemmas.List.{length-append, length-map, take_more, take_all, length-take-le}
-use Rattle.std.proofs.lemmas.Option.{same_Some, slice_get_within}
-use Rattle.fcp_model.specs.declared.run.Place.{Place}
-use Rattle.fcp_model.specs.Places.{Variable, made, own, place, placed, proc, is_same_process}
-use Rattle.fcp_model.specs.Terms.{Term, find}
-use Rattle.fcp_model.specs.Programs.{Goal, user, true', unifies, assigns}
-use Rattle.fcp_model.specs.States.{Status, ready, waiting, Process, State, start, processes_of, count_up}
-use Rattle.heap_words.specs.Cells.{decoded, is_final_word}
-use Rattle.heap_words.specs.Heaps.{IsHeap, is_inside, inside_at}
+use Rattle.std.proofs.lemmas.Bool.{false≢true}
+use Rattle.std.proofs.lemmas.List.{take_more, length-take-le}
+use Rattle.std.proofs.lemmas.Option.{same_Some}
+use Rattle.fcp_model.specs.Programs.{Goal}
+use Rattle.heap_words.specs.Cells.{decoded}
+use Rattle.heap_words.specs.Heaps.{is_inside, inside_at}
 use Rattle.heap_words.specs.HeapLaws.{inside_known}
-use Rattle.heap_words.specs.declared.cell.Cell.{Cell}
 use Rattle.heap_words.specs.declared.cell.Cell.TheVariants as cell
 use Rattle.heap_words.specs.declared.cell.Stand.{Stand}
 use Rattle.heap_words.specs.declared.cell.Stand.TheVariants as stand
-use Rattle.word_states.specs.Words.{Words, At, Grows, IsIn, AreDistinct}
-use Rattle.word_states.specs.Denoting.{Addresses, Listed, Arguments, GoalSays}
-use Rattle.word_states.specs.Standing.{PlacesStand, ProcessSays, StatusSays, StandsAt, Book, StandsFor, variable_code}
+use Rattle.word_states.specs.Words.{At, Grows, IsIn, AreDistinct}
+use Rattle.word_states.specs.Denoting.{Addresses}
+use Rattle.word_states.specs.Standing.{ProcessSays}
 use Rattle.goal_layout.specs.FirstFit.{first_fit}
 use Rattle.goal_layout.specs.PieceSizes.{goal_sizes, sizes_of}
 use Rattle.goal_layout.specs.Pages.{rooms, ArePages}
-use Rattle.goal_layout.specs.Laying.{IsQuiet, IsSaid, places_of}
-use Rattle.goal_layout.specs.Items.{LaysItem, new_process, settled_goal}
+use Rattle.goal_layout.specs.Laying.{places_of}
+use Rattle.goal_layout.specs.Items.{LaysItem, new_process}
 use Rattle.goal_layout.specs.Goals.{LaysPlaces}
 use Rattle.goal_layout.proofs.Lays.{first_fit-append, top_word, final_off, kept_word, said_on}
-use Rattle.word_states.proofs.Persisting.{at_on, process_on, one_cell}
-use Rattle.goal_layout.proofs.Heaping.{Sort, AreLaid, laid_heap, laid_status}
-use Rattle.goal_layout.proofs.FirstPlaces.{listed_number, place_names}
-use Rattle.goal_layout.proofs.FirstProcesses.{AreAt, are_more, are_count, count_processes, one_of, IsAt, stands_is, stands_says, in_stands, one_position, in_left, in_last, in_either, distinct_more}
+use Rattle.word_states.proofs.Persisting.{at_on, process_on}
+use Rattle.goal_layout.proofs.Heaping.{Sort}
+use Rattle.goal_layout.proofs.FirstProcesses.{AreAt, are_more, are_count, one_of, in_left, in_last, in_either, distinct_more}
 
 -- The words ws came from base: the places and the first n of the goals are laid.
 pub record Standing (vars : ℕ) (gs : List (Goal ℕ)) (n : ℕ) (base ws procs : List ℕ) : Type 0 where

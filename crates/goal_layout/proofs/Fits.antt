@@ -1,9 +1,9 @@
 -- A piece that goes into the first page with room for it.
-use Rattle.std.proofs.Common.{◌≡◌, ℕ, zero, suc, ◌+◌, ◌-◌, ◌*◌, ◌/◌, ◌<◌, ◌≤◌, Bool, true, false, cond, List, [], ◌∷◌, length, Option, Some, None, refl, sym, ap, ◌∙◌, subst, arith, ◌⊎◌, inl, inr, ⊎_elim}
-use Rattle.std.specs.Prelude.{nat_lt, option_map}
+use Rattle.std.proofs.Common.{◌≡◌, ℕ, zero, suc, ◌+◌, ◌-◌, ◌<◌, ◌≤◌, cond, List, ◌∷◌, Some, None, refl, sym, ap, ◌∙◌, subst, arith, ⊎_elim}
+use Rattle.std.specs.Prelude.{option_map}
 use Rattle.std.proofs.lemmas.Bool.{lt-ltb, le-ltb, cases_eq}
 use Rattle.goal_layout.specs.FirstFit.{fit}
-use Rattle.goal_layout.specs.Pages.{room, rooms_from, rooms}
+use Rattle.goal_layout.specs.Pages.{room, rooms_from}
 
 -- the rooms of pages that are not changed
 pub same_rooms : (ws ws' : List ℕ) (p n : ℕ) → ((q : ℕ) → p ≤ q → q < p + n → room ws' q ≡ room ws q) → rooms_from ws' p n ≡ rooms_from ws p n

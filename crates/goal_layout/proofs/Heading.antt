@@ -1,12 +1,12 @@
 -- A process is laid after the pieces of its arguments.
-use Rattle.std.proofs.Common.{◌≡◌, ℕ, zero, suc, ◌+◌, ◌-◌, ◌*◌, ◌%◌, ◌<◌, ◌≤◌, pos, Bool, true, false, List, [], ◌∷◌, ◌++◌, length, map, slice_get, Option, Some, None, refl, sym, ap, ◌∙◌, subst, arith, ◌⊎◌, inl, inr, ⊎_elim}
+use Rattle.std.proofs.Common.{◌≡◌, ℕ, suc, ◌+◌, ◌%◌, ◌<◌, ◌≤◌, pos, true, false, List, [], ◌∷◌, ◌++◌, length, Some, refl, sym, ap, ◌∙◌, subst, arith, ◌⊎◌, inl, inr, ⊎_elim}
 use Rattle.std.specs.Option.{option_and_then}
 use Rattle.std.proofs.lemmas.Int.{ints}
 use Rattle.std.proofs.lemmas.Bool.{cases_eq, cases_lt, false≢true}
 use Rattle.std.proofs.lemmas.Option.{same_Some}
 use Rattle.fcp_model.specs.Places.{Variable}
 use Rattle.fcp_model.specs.Terms.{Term}
-use Rattle.fcp_model.specs.Expressions.{Expr, leaf}
+use Rattle.fcp_model.specs.Expressions.{leaf}
 use Rattle.heap_words.specs.Cells.{decoded, encoded, IsCell}
 use Rattle.heap_words.specs.Heaps.{is_inside, inside_at}
 use Rattle.heap_words.specs.HeapLaws.{inside_known}
@@ -15,11 +15,11 @@ use Rattle.heap_words.specs.declared.cell.Cell.TheVariants.{Small, Raw, Status}
 use Rattle.heap_words.specs.declared.cell.Stand.TheVariants.{Ready}
 use Rattle.heap_words.proofs.Encodings.{decoded_encoded}
 use Rattle.word_states.specs.Words.{Words, At, StandAt, Grows}
-use Rattle.word_states.specs.Denoting.{Addresses, Denotes, Arguments, ExprSays}
+use Rattle.word_states.specs.Denoting.{Addresses, Denotes, Arguments}
 use Rattle.goal_layout.specs.FirstFit.{fit, first_fit}
-use Rattle.goal_layout.specs.Pages.{rooms, ArePages}
-use Rattle.goal_layout.specs.Laying.{IsQuiet, is_quiet, IsSaid, Lays, Fills}
-use Rattle.goal_layout.specs.Items.{process_words, LaysProcess, LaysHeaded}
+use Rattle.goal_layout.specs.Pages.{rooms}
+use Rattle.goal_layout.specs.Laying.{is_quiet, IsSaid, Lays}
+use Rattle.goal_layout.specs.Items.{LaysProcess, LaysHeaded}
 use Rattle.goal_layout.proofs.Insides.{not_inside, first_inside}
 use Rattle.word_states.proofs.Persisting.{denotes_on}
 use Rattle.goal_layout.proofs.Lays.{first_fit-append, final_off, kept_word, said_on}

@@ -1,13 +1,11 @@
 -- Words that refer to nothing, that say expressions, and processes: they are a heap.
-use Rattle.std.proofs.Common.{◌≡◌, ℕ, zero, suc, ◌+◌, ◌-◌, ◌*◌, ◌%◌, ◌<◌, ◌≤◌, Bool, true, false, cond, List, [], ◌∷◌, length, slice_get, Option, Some, None, refl, sym, ap, ◌∙◌, subst, arith, ◌⊎◌, inl, inr, ⊎_elim}
-use Rattle.std.specs.Prelude.{ℤ}
-use Rattle.std.proofs.lemmas.Bool.{false≢true}
+use Rattle.std.proofs.Common.{◌≡◌, ℕ, suc, ◌+◌, ◌-◌, ◌<◌, ◌≤◌, Bool, true, false, cond, List, Option, Some, None, refl, sym, ap, ◌∙◌, subst, arith, ◌⊎◌, inl, inr, ⊎_elim}
 use Rattle.std.proofs.lemmas.Option.{same_Some, cond_some}
 use Rattle.fcp_model.specs.Places.{Variable}
 use Rattle.fcp_model.specs.Expressions.{Expr}
 use Rattle.heap_words.specs.Cells.{decoded, is_final_word, is_final_cell, is_final_in}
 use Rattle.heap_words.specs.Refers.{Refers, Reaches, reaches_refers, HasPart, teller, RefersBy, reaches_by_refers, HasPartBy, parts}
-use Rattle.heap_words.specs.WordsLaws.{Acyclic, tells_all}
+use Rattle.heap_words.specs.WordsLaws.{Acyclic}
 use Rattle.heap_words.specs.Heaps.{IsHeap, RefersInside, is_inside, inside_at, only_final, final_at}
 use Rattle.heap_words.specs.HeapLaws.{inside_known, plain_inside}
 use Rattle.heap_words.specs.declared.cell.Cell.{Cell}

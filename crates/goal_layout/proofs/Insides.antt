@@ -1,10 +1,10 @@
 -- Which addresses are inside.
-use Rattle.std.proofs.Common.{◌≡◌, ℕ, ◌+◌, ◌-◌, ◌*◌, ◌/◌, ◌%◌, ◌<◌, ◌≤◌, Bool, true, false, cond, List, length, slice_get, Option, Some, None, refl, sym, ap, ◌∙◌, subst, arith, ◌⊎◌, inl, inr, ⊎_elim, ◌||◌}
+use Rattle.std.proofs.Common.{◌≡◌, ℕ, ◌-◌, ◌%◌, ◌<◌, ◌≤◌, Bool, true, false, cond, List, length, slice_get, Some, None, refl, arith, ◌⊎◌, inl, inr, ⊎_elim, ◌||◌}
 use Rattle.std.specs.Prelude.{nat_eq, nat_lt, ◌&&◌}
-use Rattle.std.proofs.lemmas.Bool.{and_parts, and_from, or_left, or_right, or_cases, eqb-true, eq-eqb, ltb-true, lt-ltb, le-ltb, false≢true, cases_lt}
-use Rattle.std.proofs.lemmas.Option.{slice_get-get_or, same_Some}
+use Rattle.std.proofs.lemmas.Bool.{and_parts, and_from, or_left, or_cases, eqb-true, eq-eqb, ltb-true, lt-ltb}
+use Rattle.std.proofs.lemmas.Option.{slice_get-get_or}
 use Rattle.heap_words.specs.Heaps.{top_at, is_inside, inside_at}
-use Rattle.heap_words.specs.HeapLaws.{inside_below, inside_known, inside_is}
+use Rattle.heap_words.specs.HeapLaws.{inside_below, inside_is}
 
 -- a page's first word is inside
 pub first_inside : (ws : List ℕ) (a : ℕ) → a < length ws → a % 1024 ≡ 0 → is_inside ws a ≡ true

@@ -1,12 +1,9 @@
 -- Pieces laid one after another, and words of them written.
-use Rattle.std.proofs.Common.{◌≡◌, ℕ, zero, suc, ◌+◌, ◌-◌, ◌*◌, ◌/◌, ◌%◌, ◌<◌, ◌≤◌, Bool, true, false, cond, List, [], ◌∷◌, ◌++◌, length, set, slice_get, Option, Some, None, refl, sym, ap, ◌∙◌, subst, arith, ◌⊎◌, inl, inr, ⊎_elim, append_assoc}
-use Rattle.std.specs.Prelude.{nat_eq}
+use Rattle.std.proofs.Common.{◌≡◌, ℕ, ◌+◌, ◌-◌, ◌*◌, ◌/◌, ◌%◌, ◌<◌, ◌≤◌, true, false, List, [], ◌∷◌, ◌++◌, length, set, slice_get, Option, Some, None, refl, sym, ap, ◌∙◌, subst, arith, ◌⊎◌, inl, inr, ⊎_elim}
 use Rattle.std.specs.Option.{option_and_then}
 use Rattle.std.proofs.lemmas.Bool.{cases_eq, cases_lt, false≢true}
 use Rattle.std.proofs.lemmas.List.{length-set}
 use Rattle.std.proofs.lemmas.Option.{same_Some, slice_get_within}
-use Rattle.fcp_model.specs.Places.{Variable}
-use Rattle.fcp_model.specs.Expressions.{Expr}
 use Rattle.heap_words.specs.Cells.{decoded, is_final_word, is_final_in}
 use Rattle.heap_words.specs.Heaps.{top_said, top_at, is_inside, inside_at}
 use Rattle.heap_words.specs.HeapLaws.{inside_is, inside_known, inside_below}
@@ -14,11 +11,11 @@ use Rattle.heap_words.specs.declared.cell.Cell.{Cell}
 use Rattle.heap_words.specs.declared.cell.Cell.TheVariants.{Unbound, Ref, RoRef, Small, Wide, Str, Nil, Cons, Tuple, Status, Raw, Top}
 use Rattle.heap_words.proofs.QuietHeaps.{same_top, slice_get-set_same, slice_get-set_other}
 use Rattle.word_states.specs.Words.{Words, Grows}
-use Rattle.word_states.specs.Denoting.{Addresses, Listed, ExprSays}
+use Rattle.word_states.specs.Denoting.{Addresses}
 use Rattle.goal_layout.specs.FirstFit.{fit, first_fit}
-use Rattle.goal_layout.specs.Pages.{room, rooms_from, rooms, ArePages, Takes}
-use Rattle.goal_layout.specs.Laying.{IsQuiet, is_quiet, IsSaid, Lays, IsBlank}
-use Rattle.goal_layout.proofs.Insides.{inside_word, same_inside, same_inside_at, first_inside}
+use Rattle.goal_layout.specs.Pages.{rooms_from, rooms, ArePages, Takes}
+use Rattle.goal_layout.specs.Laying.{IsQuiet, IsSaid, Lays, IsBlank}
+use Rattle.goal_layout.proofs.Insides.{inside_word, same_inside, same_inside_at}
 use Rattle.goal_layout.proofs.Fits.{same_rooms}
 use Rattle.word_states.proofs.Persisting.{expr_on}
 

@@ -1,6 +1,6 @@
 -- Words of numbers, and of variables.
-use Rattle.std.proofs.Common.{◌≡◌, ℕ, zero, suc, ◌+◌, ◌-◌, ◌*◌, ◌/◌, ◌%◌, ◌<◌, ◌≤◌, ℤ, pos, negsuc, Bool, true, false, cond, List, [], ◌∷◌, ◌++◌, length, set, slice_get, map, Option, Some, None, refl, sym, ap, ◌∙◌, subst, arith, ◌⊎◌, inl, inr, ⊎_elim, FitsSigned, w64}
-use Rattle.std.specs.Prelude.{nat_le, nat_lt, IfSome}
+use Rattle.std.proofs.Common.{◌≡◌, ℕ, zero, suc, ◌+◌, ◌*◌, ◌<◌, ◌≤◌, ℤ, pos, negsuc, true, false, cond, List, [], ◌∷◌, set, map, Option, Some, None, refl, sym, ap, ◌∙◌, subst, arith, inl, inr, ⊎_elim, FitsSigned, w64}
+use Rattle.std.specs.Prelude.{nat_le, IfSome}
 use Rattle.std.proofs.lemmas.Int.{ints}
 use Rattle.std.proofs.lemmas.Bool.{cases_eq, cases_lt, false≢true, le-leb, and_from}
 use Rattle.fcp_model.specs.declared.term.Term as source
@@ -12,14 +12,13 @@ use Rattle.fcp_model.specs.Translation.{term_step, term_of}
 use Rattle.fcp_model.specs.ClosedPrograms.{Over, IsNumbered}
 use Rattle.fcp_model.proofs.Folds.{fold-Int, fold-Var, fold-Ro}
 use Rattle.heap_words.specs.Cells.{decoded}
-use Rattle.heap_words.specs.Heaps.{is_inside, inside_at}
+use Rattle.heap_words.specs.Heaps.{inside_at}
 use Rattle.heap_words.specs.declared.cell.Cell.TheVariants.{Small, Wide, Ref, RoRef}
-use Rattle.word_states.specs.Words.{At}
 use Rattle.word_states.specs.Numbers.{bits, low_bits, IsLong}
 use Rattle.word_states.specs.Denoting.{Addresses, Listed, Denotes}
 use Rattle.goal_layout.specs.PieceSizes.{is_small, term_sizes}
 use Rattle.goal_layout.specs.Pages.{ArePages, Takes}
-use Rattle.goal_layout.specs.Laying.{IsBlank, IsQuiet, IsSaid, Lays, LaysTerm, places_of}
+use Rattle.goal_layout.specs.Laying.{IsBlank, Lays, LaysTerm, places_of}
 use Rattle.goal_layout.proofs.Lays.{lays_none, take_lays, lays_written, written_word}
 
 -- a number of 64 bits that is no small one

@@ -1,21 +1,20 @@
 -- The loop along a list's rest.
-use Rattle.std.proofs.Common.{◌≡◌, ℕ, suc, ◌+◌, ◌<◌, ◌≤◌, List, ◌∷◌, ◌++◌, length, set, Option, Some, None, refl, sym, ap, ◌∙◌, subst, arith, rules}
+use Rattle.std.proofs.Common.{◌≡◌, ℕ, ◌+◌, ◌<◌, List, ◌++◌, length, set, Option, Some, None, sym, ap, ◌∙◌, subst, arith, rules}
 use Rattle.std.specs.Prelude.{IfNone}
 use Rattle.std.specs.Option.{option_and_then}
 use Rattle.fcp_model.specs.declared.term.Term as source
 use Rattle.fcp_model.specs.declared.term.Term.{Cons, Tuple, size-Term, the_lemmas}
-use Rattle.fcp_model.specs.Terms.{Term, cons, tuple}
-use Rattle.fcp_model.specs.Translation.{term_step, term_of, terms_of}
+use Rattle.fcp_model.specs.Terms.{Term, cons}
+use Rattle.fcp_model.specs.Translation.{term_step, term_of}
 use Rattle.fcp_model.specs.ClosedPrograms.{Over, IsNumbered}
-use Rattle.fcp_model.proofs.Folds.{fold-Cons, fold-Tuple}
+use Rattle.fcp_model.proofs.Folds.{fold-Cons}
 use Rattle.heap_words.specs.Cells.{decoded}
-use Rattle.heap_words.specs.Heaps.{inside_at}
 use Rattle.heap_words.specs.HeapLaws.{inside_known, inside_below}
 use Rattle.heap_words.specs.declared.cell.Cell.TheVariants as cell
 use Rattle.goal_layout.specs.FirstFit.{fit, first_fit}
 use Rattle.goal_layout.specs.PieceSizes.{term_sizes}
 use Rattle.goal_layout.specs.Pages.{rooms, ArePages, Takes}
-use Rattle.goal_layout.specs.Laying.{IsNarrow, Lays, LaysTerm, places_of}
+use Rattle.goal_layout.specs.Laying.{IsNarrow, LaysTerm, places_of}
 use Rattle.goal_layout.proofs.Lays.{first_fit-append}
 use Rattle.goal_layout.proofs.Chains.{Chain, chain_begins, chain_step, chain_ends}
 

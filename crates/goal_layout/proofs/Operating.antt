@@ -1,29 +1,26 @@
 -- An operator is laid with its operands.
-use Rattle.std.proofs.Common.{◌≡◌, ℕ, suc, ◌+◌, ◌<◌, ◌≤◌, List, [], ◌∷◌, ◌++◌, length, set, Option, Some, None, refl, sym, ap, ◌∙◌, subst, arith, inl, inr, rules}
-use Rattle.std.specs.Prelude.{IfSome}
+use Rattle.std.proofs.Common.{◌≡◌, ℕ, ◌+◌, ◌<◌, List, [], ◌∷◌, ◌++◌, set, Some, None, refl, sym, ap, ◌∙◌, subst, arith, inl, inr, rules}
 use Rattle.std.specs.Option.{option_and_then}
 use Rattle.fcp_model.specs.declared.term.ArithOp.{ArithOp}
 use Rattle.fcp_model.specs.declared.term.Term as source
 use Rattle.fcp_model.specs.declared.term.Expr as source_expr
 use Rattle.fcp_model.specs.declared.term.Expr.{Leaf, Op, size-Expr, the_lemmas}
-use Rattle.fcp_model.specs.Places.{Variable}
 use Rattle.fcp_model.specs.Expressions.{Expr, leaf, op}
 use Rattle.fcp_model.specs.Translation.{term_of, expr_step, expr_of}
-use Rattle.fcp_model.specs.ClosedPrograms.{Over, ExprOver, IsNumbered}
+use Rattle.fcp_model.specs.ClosedPrograms.{ExprOver, IsNumbered}
 use Rattle.fcp_model.proofs.Folds.{fold-Leaf, fold-Op}
-use Rattle.heap_words.specs.Cells.{decoded, is_final_word}
+use Rattle.heap_words.specs.Cells.{decoded}
 use Rattle.heap_words.specs.Heaps.{inside_at}
 use Rattle.heap_words.specs.declared.cell.Cell.TheVariants.{Raw, Tuple}
-use Rattle.word_states.specs.Words.{At, Grows}
-use Rattle.word_states.specs.Denoting.{Addresses, ExprSays, operator_code}
-use Rattle.goal_layout.specs.FirstFit.{fit, first_fit}
+use Rattle.word_states.specs.Words.{Grows}
+use Rattle.word_states.specs.Denoting.{Addresses, operator_code}
+use Rattle.goal_layout.specs.FirstFit.{first_fit}
 use Rattle.goal_layout.specs.PieceSizes.{expr_sizes}
 use Rattle.goal_layout.specs.Pages.{rooms, ArePages, Takes}
-use Rattle.goal_layout.specs.Laying.{IsBlank, IsNarrowExpr, IsNarrow, Lays, LaysTerm, LaysExpr, places_of, settled_expr}
+use Rattle.goal_layout.specs.Laying.{IsBlank, IsNarrowExpr, Lays, LaysExpr, places_of, settled_expr}
 use Rattle.word_states.proofs.Persisting.{at_on, expr_on, expr_final}
 use Rattle.goal_layout.proofs.Leaves.{taken_blank}
 use Rattle.goal_layout.proofs.Lays.{first_fit-append, take_lays, lays_then, lays_grows, blank_on, written_word, written_other, written_pages, written_grows, lays_written}
-use Rattle.goal_layout.proofs.Listing.{LaysAlways}
 
 -- an expression was laid, for each number of variables
 abbrev pub LaysExprAlways : Expr ℕ → ℕ → List ℕ → List ℕ → Type 0

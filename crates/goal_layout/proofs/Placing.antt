@@ -1,23 +1,23 @@
 -- The places are laid in the first page of a new heap.
-use Rattle.std.proofs.Common.{◌≡◌, ℕ, zero, suc, ◌+◌, ◌-◌, ◌*◌, ◌/◌, ◌%◌, ◌<◌, ◌≤◌, pos, Bool, true, false, cond, List, [], ◌∷◌, length, set, slice_get, Option, Some, None, refl, sym, ap, ◌∙◌, subst, arith, ◌⊎◌, inl, inr, ⊎_elim}
-use Rattle.std.specs.Prelude.{nat_eq, nat_lt, option_map, replicate}
+use Rattle.std.proofs.Common.{◌≡◌, ℕ, zero, suc, ◌+◌, ◌-◌, ◌*◌, ◌/◌, ◌%◌, ◌<◌, ◌≤◌, pos, true, false, cond, List, ◌∷◌, length, set, slice_get, Some, refl, sym, ap, ◌∙◌, subst, arith, ◌⊎◌, inl, inr, ⊎_elim}
+use Rattle.std.specs.Prelude.{option_map, replicate}
 use Rattle.std.specs.Option.{option_and_then}
 use Rattle.std.proofs.lemmas.Int.{ints}
 use Rattle.std.proofs.lemmas.Bool.{cases_eq, cases_lt, eq-eqb, ne_eqb, le-ltb, false≢true}
 use Rattle.std.proofs.lemmas.List.{length-set}
-use Rattle.std.proofs.lemmas.Option.{same_Some, slice_get_within}
+use Rattle.std.proofs.lemmas.Option.{same_Some}
 use Rattle.heap_words.specs.Cells.{decoded, encoded}
-use Rattle.heap_words.specs.Heaps.{AreFresh, fresh_word, top_said, top_at, is_inside, inside_at}
+use Rattle.heap_words.specs.Heaps.{top_said, top_at, is_inside, inside_at}
 use Rattle.heap_words.specs.HeapLaws.{inside_is, inside_known}
-use Rattle.heap_words.specs.declared.cell.Cell.TheVariants.{Unbound, Small, Top}
+use Rattle.heap_words.specs.declared.cell.Cell.TheVariants.{Small, Top}
 use Rattle.heap_words.proofs.Encodings.{decoded_encoded}
-use Rattle.heap_words.proofs.QuietHeaps.{slice_get-set_same, slice_get-set_other, same_top, new_top, below_top}
+use Rattle.heap_words.proofs.QuietHeaps.{slice_get-set_same, slice_get-set_other, new_top, below_top}
 use Rattle.word_states.specs.Words.{At}
 use Rattle.goal_layout.specs.FirstFit.{fit, first_fit}
 use Rattle.goal_layout.specs.Pages.{room, rooms_from, rooms, ArePages}
 use Rattle.goal_layout.specs.Laying.{IsQuiet}
 use Rattle.goal_layout.specs.Goals.{AreNew, LaysPlaces}
-use Rattle.goal_layout.proofs.Insides.{inside_word, inside_cases, first_inside, above_top}
+use Rattle.goal_layout.proofs.Insides.{inside_cases, first_inside}
 use Rattle.goal_layout.proofs.Fits.{same_rooms}
 use Rattle.goal_layout.proofs.Lays.{zero_quiet, top_quiet}
 

@@ -1,13 +1,12 @@
 -- Cells that refer to nothing.
-use Rattle.std.proofs.Common.{◌≡◌, ℕ, ◌<◌, Bool, true, false, cond, Option, Some, None, refl, sym, ap, ◌∙◌, subst, arith}
-use Rattle.std.specs.Prelude.{nat_eq}
+use Rattle.std.proofs.Common.{◌≡◌, ℕ, ◌<◌, true, cond, Some, None, refl, sym, ap, ◌∙◌, arith}
 use Rattle.std.proofs.lemmas.Bool.{eqb-true}
 use Rattle.std.proofs.lemmas.Option.{same_Some}
 use Rattle.heap_words.specs.Cells.{decoded}
 use Rattle.heap_words.specs.Refers.{Refers, HasPart, teller}
 use Rattle.heap_words.specs.declared.cell.Cell.{Cell}
 use Rattle.heap_words.specs.declared.cell.Cell.TheVariants.{Unbound, Ref, RoRef, Small, Wide, Str, Nil, Cons, Tuple, Status, Raw, Top}
-use Rattle.goal_layout.specs.Laying.{IsQuiet, is_quiet}
+use Rattle.goal_layout.specs.Laying.{is_quiet}
 use Rattle.goal_layout.proofs.Views.{is_constant}
 
 -- one word has one cell

@@ -1,5 +1,5 @@
 -- The two sides of `=` and of `:=`.
-use Rattle.std.proofs.Common.{◌≡◌, ℕ, suc, ◌+◌, ◌<◌, List, [], ◌∷◌, ◌++◌, length, Option, Some, None, refl, sym, ap, ◌∙◌, subst, arith, inl, inr, append_assoc}
+use Rattle.std.proofs.Common.{◌≡◌, ℕ, ◌+◌, ◌<◌, List, [], ◌∷◌, ◌++◌, Some, None, ap, ◌∙◌, arith, inr}
 use Rattle.std.specs.Option.{option_and_then}
 use Rattle.fcp_model.specs.Terms.{Term}
 use Rattle.fcp_model.specs.Expressions.{Expr, leaf}
@@ -7,14 +7,14 @@ use Rattle.fcp_model.specs.Programs.{unifies, assigns}
 use Rattle.fcp_model.specs.ClosedPrograms.{Over, ExprOver, IsNumbered}
 use Rattle.heap_words.specs.Heaps.{inside_at}
 use Rattle.word_states.specs.Words.{Grows}
-use Rattle.word_states.specs.Denoting.{Addresses, Denotes, ExprSays}
+use Rattle.word_states.specs.Denoting.{Addresses, Denotes}
 use Rattle.goal_layout.specs.FirstFit.{fit, first_fit}
 use Rattle.goal_layout.specs.PieceSizes.{term_sizes, expr_sizes, goal_sizes}
-use Rattle.goal_layout.specs.Pages.{rooms, ArePages}
-use Rattle.goal_layout.specs.Laying.{Lays, LaysTerm, LaysExpr, IsSaid, places_of, settled_term, settled_expr}
+use Rattle.goal_layout.specs.Pages.{rooms}
+use Rattle.goal_layout.specs.Laying.{Lays, places_of, settled_term, settled_expr}
 use Rattle.goal_layout.specs.Items.{LaysProcess, LaysHeaded, LaysUnify, LaysAssign}
 use Rattle.word_states.proofs.Persisting.{denotes_on, expr_on}
-use Rattle.goal_layout.proofs.Lays.{first_fit-append, lays_then, lays_grows, said_on}
+use Rattle.goal_layout.proofs.Lays.{first_fit-append, lays_then, lays_grows}
 use Rattle.goal_layout.proofs.Listing.{LaysAlways}
 use Rattle.goal_layout.proofs.Operating.{LaysExprAlways}
 use Rattle.goal_layout.proofs.Heading.{headed, headed_grows, args_denote}

@@ -1,5 +1,5 @@
 -- Words are taken in a page.
-use Rattle.std.proofs.Common.{◌≡◌, ℕ, zero, suc, ◌+◌, ◌-◌, ◌*◌, ◌/◌, ◌%◌, ◌<◌, ◌≤◌, Bool, true, false, cond, List, [], ◌∷◌, length, set, slice_get, get_or, Option, Some, None, refl, sym, ap, ◌∙◌, subst, arith, ◌⊎◌, inl, inr, ⊎_elim}
+use Rattle.std.proofs.Common.{◌≡◌, ℕ, ◌+◌, ◌-◌, ◌*◌, ◌/◌, ◌%◌, ◌<◌, ◌≤◌, true, false, List, length, set, slice_get, get_or, Some, None, sym, ap, ◌∙◌, subst, arith, ◌⊎◌, inl, inr, ⊎_elim}
 use Rattle.std.specs.Option.{option_and_then}
 use Rattle.std.proofs.lemmas.Bool.{cases_eq, cases_lt, false≢true}
 use Rattle.std.proofs.lemmas.List.{length-set}
@@ -11,7 +11,7 @@ use Rattle.heap_words.specs.declared.cell.Cell.TheVariants.{Top}
 use Rattle.heap_words.proofs.QuietHeaps.{same_top, new_top, below_top, slice_get-set_other}
 use Rattle.goal_layout.specs.FirstFit.{fit}
 use Rattle.goal_layout.specs.Pages.{room, rooms_from, rooms, ArePages, Takes}
-use Rattle.goal_layout.proofs.Insides.{inside_cases, first_inside, above_top, same_inside}
+use Rattle.goal_layout.proofs.Insides.{first_inside, above_top, same_inside}
 use Rattle.goal_layout.proofs.Fits.{fits_first, fits_nowhere}
 
 -- the top of a page, as it was read

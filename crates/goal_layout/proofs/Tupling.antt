@@ -1,17 +1,16 @@
 -- The loop over a tuple's parts.
-use Rattle.std.proofs.Common.{◌≡◌, ℕ, zero, suc, ◌+◌, ◌-◌, ◌<◌, ◌≤◌, false, List, [], ◌∷◌, ◌++◌, length, map, set, take, drop, get_or, Some, None, refl, sym, ap, ◌∙◌, subst, arith, inl, inr, append_assoc, append-nil, drop_of_length-le}
+use Rattle.std.proofs.Common.{◌≡◌, ℕ, suc, ◌+◌, ◌<◌, ◌≤◌, false, List, [], ◌∷◌, ◌++◌, length, map, set, take, drop, get_or, Some, None, refl, sym, ap, ◌∙◌, subst, arith, inl, inr, append_assoc, append-nil, drop_of_length-le}
 use Rattle.std.specs.Option.{option_and_then}
 use Rattle.std.proofs.Math.Seq.{drop-cons}
 use Rattle.std.proofs.lemmas.List.{length-map, take_more, map-append, take_all, length-take-le}
 use Rattle.fcp_model.specs.declared.term.Term as source
 use Rattle.fcp_model.specs.Places.{Variable, placed}
-use Rattle.fcp_model.specs.Terms.{Term, tuple, rename, renames}
+use Rattle.fcp_model.specs.Terms.{Term, tuple, renames}
 use Rattle.fcp_model.specs.Expressions.{leaf}
 use Rattle.fcp_model.specs.Translation.{term_of, terms_of}
 use Rattle.fcp_model.specs.ClosedPrograms.{Over, PartsOver, IsNumbered}
 use Rattle.heap_words.specs.Cells.{decoded}
 use Rattle.heap_words.specs.Heaps.{is_inside, inside_at}
-use Rattle.heap_words.specs.HeapLaws.{inside_known, inside_below}
 use Rattle.heap_words.specs.declared.cell.Cell.TheVariants.{Raw, Tuple}
 use Rattle.word_states.specs.Words.{At, Grows}
 use Rattle.word_states.specs.Numbers.{part_count}
@@ -19,7 +18,7 @@ use Rattle.word_states.specs.Denoting.{Addresses, Denotes, DenotesAll, Arguments
 use Rattle.goal_layout.specs.FirstFit.{fit, first_fit}
 use Rattle.goal_layout.specs.PieceSizes.{term_sizes, part_sizes}
 use Rattle.goal_layout.specs.Pages.{rooms, ArePages, Takes}
-use Rattle.goal_layout.specs.Laying.{IsBlank, IsNarrow, AreNarrow, Lays, LaysTerm, places_of, parts_of, settled_term}
+use Rattle.goal_layout.specs.Laying.{IsBlank, IsNarrow, AreNarrow, Lays, places_of, parts_of, settled_term}
 use Rattle.word_states.proofs.Persisting.{at_on, arguments_on, denotes_on}
 use Rattle.goal_layout.proofs.Leaves.{taken_blank}
 use Rattle.goal_layout.proofs.Lays.{first_fit-append, take_lays, lays_then, lays_grows, blank_on, written_word, written_other, written_grows, lays_written}

@@ -1,20 +1,18 @@
 -- A word of an expression, by what it refers to.
-use Rattle.std.proofs.Common.{◌≡◌, ℕ, zero, suc, ◌+◌, ◌<◌, ◌≤◌, Bool, true, false, cond, Option, Some, None, refl, sym, ap, ◌∙◌, subst, arith, ◌⊎◌, inl, inr, ⊎_elim}
-use Rattle.std.specs.Prelude.{nat_lt, ℤ}
+use Rattle.std.proofs.Common.{◌≡◌, ℕ, suc, ◌+◌, ◌<◌, ◌≤◌, Bool, true, false, cond, Some, refl, sym, ap, subst, arith, ◌⊎◌, inl, inr, ⊎_elim}
+use Rattle.std.specs.Prelude.{ℤ}
 use Rattle.std.proofs.lemmas.Bool.{lt-ltb, le-ltb, cases_eq}
-use Rattle.std.proofs.lemmas.Option.{same_Some}
-use Rattle.fcp_model.specs.declared.term.ArithOp.{ArithOp}
 use Rattle.fcp_model.specs.Places.{Variable}
-use Rattle.fcp_model.specs.Terms.{Term, number, string, nil, cons, tuple, var, ro, first, Terms, none, more}
+use Rattle.fcp_model.specs.Terms.{number, string, nil, cons, tuple, var, ro, first, Terms, none, more}
 use Rattle.fcp_model.specs.Expressions.{Expr, leaf, op}
 use Rattle.heap_words.specs.Cells.{decoded}
 use Rattle.heap_words.specs.Refers.{parts}
 use Rattle.heap_words.specs.declared.cell.Cell.{Cell}
-use Rattle.heap_words.specs.declared.cell.Cell.TheVariants.{Unbound, Ref, RoRef, Small, Wide, Str, Nil, Cons, Tuple, Status, Raw, Top}
+use Rattle.heap_words.specs.declared.cell.Cell.TheVariants.{Ref, RoRef, Small, Wide, Str, Nil, Cons, Tuple, Raw}
 use Rattle.word_states.specs.Words.{Words, At}
 use Rattle.word_states.specs.Numbers.{part_count}
-use Rattle.word_states.specs.Denoting.{Addresses, Listed, Denotes, DenotesAll, ExprSays, operator_code}
-use Rattle.goal_layout.proofs.Weights.{weight, weights, expr_weight, some_weight, some_expr_weight}
+use Rattle.word_states.specs.Denoting.{Addresses, Listed, DenotesAll, ExprSays, operator_code}
+use Rattle.goal_layout.proofs.Weights.{weight, weights, expr_weight}
 
 -- a cell of a term that refers to nothing
 abbrev pub is_constant : Cell → Bool

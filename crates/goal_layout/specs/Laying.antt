@@ -1,5 +1,5 @@
 -- What laying a piece, a term or an expression does to the words.
-use Rattle.std.specs.Prelude.{◌≡◌, ◌⊎◌, ℕ, ◌+◌, ◌*◌, ◌%◌, ◌<◌, ◌≤◌, Bool, true, false, List, length, map, slice_get, Option, Some, nat_eq}
+use Rattle.std.specs.Prelude.{◌≡◌, ◌⊎◌, ℕ, ◌+◌, ◌*◌, ◌%◌, ◌<◌, ◌≤◌, Bool, true, false, List, length, map, slice_get, Some, nat_eq}
 use Rattle.fcp_model.specs.declared.term.Term as source
 use Rattle.fcp_model.specs.Translation.{term_of, terms_of}
 use Rattle.fcp_model.specs.Places.{Variable, placed}

@@ -17,12 +17,16 @@ fn term_cells(term: &Term) -> u32
     let mut cells: u32 = 0;
     let mut rest = term;
     while let Term::Cons(head, tail) = rest {
-        cells = cells.saturating_add(3).saturating_add(term_cells(head.get()));
+        cells = cells
+            .saturating_add(3)
+            .saturating_add(term_cells(head.get()));
         rest = tail.get();
     }
     match rest {
         Term::Cons(_, _) => unreachable!(),
-        Term::Tuple(terms) => cells.saturating_add(1).saturating_add(part_cells(terms.as_slice())),
+        Term::Tuple(terms) => cells
+            .saturating_add(1)
+            .saturating_add(part_cells(terms.as_slice())),
         Term::Int(_) => cells.saturating_add(1),
         Term::Str(_) => cells,
         Term::Nil => cells,
@@ -73,8 +77,12 @@ fn item_cells(call: &Call) -> u32
 {
     match call {
         Call::User { name: _, args } => argument_cells(args.as_slice()).saturating_add(4),
-        Call::Unify(left, right) => term_cells(left).saturating_add(6).saturating_add(term_cells(right)),
-        Call::Assign(left, right) => term_cells(left).saturating_add(6).saturating_add(expr_cells(right)),
+        Call::Unify(left, right) => term_cells(left)
+            .saturating_add(6)
+            .saturating_add(term_cells(right)),
+        Call::Assign(left, right) => term_cells(left)
+            .saturating_add(6)
+            .saturating_add(expr_cells(right)),
         Call::Same(_, _) => 4,
         Call::NotSame(_, _) => 4,
         Call::Compare(_, _, _) => 4,

@@ -38,7 +38,13 @@ fn lay_call(words: &mut [u64], args: &[Term], procedure: u32, number: u32) -> Op
 }
 
 /// Lays the pieces of the two sides of `=`, and its process.
-fn lay_unify(words: &mut [u64], left: &Term, right: &Term, procedure: u32, number: u32) -> Option<u32>
+fn lay_unify(
+    words: &mut [u64],
+    left: &Term,
+    right: &Term,
+    procedure: u32,
+    number: u32,
+) -> Option<u32>
     requires pages { ArePages words.old }
     requires narrow { IsNarrow (term_of left.now) × IsNarrow (term_of right.now) }
     requires numbered { (vars : ℕ) × Over (IsNumbered vars) (term_of left.now) × Over (IsNumbered vars) (term_of right.now) }
@@ -53,7 +59,13 @@ fn lay_unify(words: &mut [u64], left: &Term, right: &Term, procedure: u32, numbe
 }
 
 /// Lays the pieces of the two sides of `:=`, and its process.
-fn lay_assign(words: &mut [u64], left: &Term, right: &Expr, procedure: u32, number: u32) -> Option<u32>
+fn lay_assign(
+    words: &mut [u64],
+    left: &Term,
+    right: &Expr,
+    procedure: u32,
+    number: u32,
+) -> Option<u32>
     requires pages { ArePages words.old }
     requires narrow { IsNarrow (term_of left.now) × IsNarrowExpr (expr_of right.now) }
     requires numbered { (vars : ℕ) × Over (IsNumbered vars) (term_of left.now) × ExprOver (IsNumbered vars) (expr_of right.now) }

@@ -35,7 +35,12 @@ fn lay_all(words: &mut [u64], goal: &LoadedGoal) -> Option<u32>
     let items = text.items.as_slice();
     let first = lay_item(words, &items[0].call, goal.procedure(0), 1)?;
     for at in 1..items.len() {
-        lay_item(words, &items[at].call, goal.procedure(at as u32), at as u32 + 1)?;
+        lay_item(
+            words,
+            &items[at].call,
+            goal.procedure(at as u32),
+            at as u32 + 1,
+        )?;
     }
     Some(first)
 }

@@ -5,7 +5,6 @@ mod cells;
 mod expressions;
 mod items;
 mod layout;
-
 mod numbers;
 mod pages;
 mod places;

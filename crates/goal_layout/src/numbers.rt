@@ -45,15 +45,9 @@ fn split(number: i64) -> (i64, u8)
 {
     if number < 0 {
         let size = number.unsigned_abs() - 1;
-        (
-            signed(LOW - 1 - size % LOW),
-            255 - (size / LOW) as u8,
-        )
+        (signed(LOW - 1 - size % LOW), 255 - (size / LOW) as u8)
     } else {
-        (
-            signed(number as u64 % LOW),
-            (number as u64 / LOW) as u8,
-        )
+        (signed(number as u64 % LOW), (number as u64 / LOW) as u8)
     }
 }
 

@@ -8,7 +8,12 @@ use crate::pages::take;
 use heap_words::{Cell, Stand, encode};
 
 /// Lays a process that is Ready, and answers its address: its status, its name, its procedure, its number of arguments, and these.
-pub(crate) fn lay_process(words: &mut [u64], number: u32, procedure: u32, args: &[u64]) -> Option<u32>
+pub(crate) fn lay_process(
+    words: &mut [u64],
+    number: u32,
+    procedure: u32,
+    args: &[u64],
+) -> Option<u32>
     requires pages { ArePages words.old }
     requires few { length args.now ≤ 64 }
     ensures none { IfNone result (fit (4 + length args.now) (rooms words.old) ≡ None) }

@@ -1,4 +1,4 @@
-use Rattle.std.proofs.Common.{◌≡◌, ◌+◌, map, take, length}
+use Rattle.std.proofs.Common.{◌≡◌, ◌+◌, map, take}
 use Rattle.std.specs.Prelude.{sum_by}
 use Rattle.fcp_model.specs.Translation.{term_of}
 use Rattle.fcp_model.specs.Cells.{term_cells}

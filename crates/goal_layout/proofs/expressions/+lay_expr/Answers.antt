@@ -1,7 +1,7 @@
-use Rattle.std.proofs.Common.{◌≡◌, ℕ, ◌+◌, ◌<◌, ◌∙◌, ap, Some, arith, rules}
+use Rattle.std.proofs.Common.{◌+◌, ◌∙◌, ap, Some, rules}
 use Rattle.heap_words.specs.declared.cell.Cell.TheVariants.{Raw}
 use Rattle.goal_layout.proofs.Listing.{none_if}
-use Rattle.goal_layout.proofs.Operating.{LaysExprAlways, left_next, right_next, left_finds_none, right_finds_none, whole_laid}
+use Rattle.goal_layout.proofs.Operating.{left_next, right_next, left_finds_none, right_finds_none, whole_laid}
 use Rattle.goal_layout.proofs.expressions.+lay_expr.Goals as goal
 
 pub lay_expr-requires : goal.lay_expr-requires

@@ -1,4 +1,4 @@
-use Rattle.std.proofs.Common.{◌≡◌, ℕ, ◌∷◌, ◌++◌, []}
+use Rattle.std.proofs.Common.{◌∷◌, ◌++◌, []}
 use Rattle.std.proofs.lemmas.Option.{IfSome_then}
 use Rattle.fcp_model.specs.Translation.{term_of, expr_of}
 use Rattle.goal_layout.specs.PieceSizes.{term_sizes, expr_sizes}

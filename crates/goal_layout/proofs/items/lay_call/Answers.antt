@@ -1,6 +1,5 @@
-use Rattle.std.proofs.Common.{◌≡◌, ℕ, ◌+◌, ◌<◌, ◌++◌, [], ◌∷◌, map, length, take, arith}
+use Rattle.std.proofs.Common.{◌+◌, [], ◌∷◌, length}
 use Rattle.std.proofs.lemmas.Option.{IfSome_then}
-use Rattle.fcp_model.specs.Translation.{term_of}
 use Rattle.goal_layout.proofs.Listing.{none_if, none_then}
 use Rattle.goal_layout.proofs.Calling.{arg_misses, calling_step, call_misses, call_laid}
 use Rattle.goal_layout.proofs.items.lay_call.Goals as goal

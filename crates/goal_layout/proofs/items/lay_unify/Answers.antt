@@ -1,7 +1,7 @@
-use Rattle.std.proofs.Common.{◌≡◌, ℕ, ◌∷◌, ◌++◌, []}
+use Rattle.std.proofs.Common.{◌∷◌, ◌++◌, []}
 use Rattle.std.proofs.lemmas.Option.{IfSome_then}
-use Rattle.fcp_model.specs.Translation.{term_of, expr_of}
-use Rattle.goal_layout.specs.PieceSizes.{term_sizes, expr_sizes}
+use Rattle.fcp_model.specs.Translation.{term_of}
+use Rattle.goal_layout.specs.PieceSizes.{term_sizes}
 use Rattle.goal_layout.specs.Pages.{rooms}
 use Rattle.goal_layout.proofs.Listing.{none_if, none_then}
 use Rattle.goal_layout.proofs.Siding.{first_side_misses, second_side_misses, unify_misses, unify_laid}

@@ -1,4 +1,4 @@
-use Rattle.std.proofs.Common.{◌≡◌, ℕ, ◌+◌, ◌<◌, ◌≤◌, ◌∙◌, List, length, get_or, None, sym, ap, subst, arith}
+use Rattle.std.proofs.Common.{◌≡◌, ◌+◌, ◌<◌, ◌≤◌, ◌∙◌, List, length, get_or, None, sym, ap, subst}
 use Rattle.std.specs.Prelude.{replicate}
 use Rattle.fcp_model.specs.declared.source.Item.{Item}
 use Rattle.goal_layout.specs.FirstFit.{first_fit}

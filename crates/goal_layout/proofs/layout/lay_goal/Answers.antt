@@ -1,4 +1,4 @@
-use Rattle.std.proofs.Common.{◌≡◌, ℕ, ◌*◌, ◌/◌, ◌∙◌, List, length, sym, ap, subst, arith}
+use Rattle.std.proofs.Common.{◌≡◌, ◌*◌, ◌/◌, ◌∙◌, length, sym, ap, subst, arith}
 use Rattle.heap_words.specs.Heaps.{AreFresh}
 use Rattle.goal_layout.specs.Goals.{at_most, cells_of}
 use Rattle.goal_layout.proofs.AllItems.{same_fresh, new_free}

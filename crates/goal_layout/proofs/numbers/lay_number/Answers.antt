@@ -1,4 +1,4 @@
-use Rattle.std.proofs.Common.{◌≡◌, ℤ, [], Some, sym, ap, ◌∙◌, rules, w64, to_z, of_z, to_z-of_z}
+use Rattle.std.proofs.Common.{◌≡◌, [], Some, sym, ap, ◌∙◌, rules, w64, to_z, of_z, to_z-of_z}
 use Rattle.heap_words.specs.declared.cell.Cell.TheVariants.{Small}
 use Rattle.word_states.specs.Numbers.{bits}
 use Rattle.goal_layout.specs.PieceSizes.{is_small}

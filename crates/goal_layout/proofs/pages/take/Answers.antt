@@ -1,4 +1,4 @@
-use Rattle.std.proofs.Common.{◌≡◌, ℕ, ◌+◌, ◌*◌, ◌<◌, ◌≤◌, length, arith, ap, sym, subst, ◌∙◌}
+use Rattle.std.proofs.Common.{arith, ap, sym, ◌∙◌}
 use Rattle.goal_layout.specs.FirstFit.{fit}
 use Rattle.goal_layout.specs.Pages.{rooms}
 use Rattle.goal_layout.proofs.Taking.{took, too_small, takes_nothing}

@@ -1,4 +1,4 @@
-use Rattle.std.proofs.Common.{◌≡◌, ◌∙◌, ℕ, ◌+◌, ◌-◌, ◌*◌, ◌<◌, ◌≤◌, pos, length, set, sym, ap, subst, arith, to_z, w64}
+use Rattle.std.proofs.Common.{◌≡◌, ◌∙◌, ◌+◌, ◌-◌, ◌*◌, pos, set, sym, ap, subst, arith, to_z, w64}
 use Rattle.std.proofs.lemmas.Int.{ints}
 use Rattle.heap_words.specs.Cells.{encoded}
 use Rattle.heap_words.specs.declared.cell.Cell.TheVariants.{Small}

@@ -1,4 +1,4 @@
-use Rattle.std.proofs.Common.{ℕ, ◌+◌, ◌∷◌, [], ◌≡◌, ◌∙◌, ap, pos, refl, length, to_z, w64, arith}
+use Rattle.std.proofs.Common.{◌+◌, ◌∷◌, [], ◌≡◌, ◌∙◌, ap, pos, refl, length, to_z, w64, arith}
 use Rattle.std.proofs.lemmas.Int.{ints}
 use Rattle.heap_words.specs.Cells.{encoded}
 use Rattle.heap_words.specs.declared.cell.Cell.TheVariants.{Small}

@@ -1,4 +1,4 @@
-use Rattle.std.proofs.Common.{ℕ, ◌+◌, ◌∷◌, ◌≡◌, ◌++◌, [], List, length, take, pos}
+use Rattle.std.proofs.Common.{◌+◌, ◌∷◌, ◌++◌, [], length, take, pos}
 use Rattle.heap_words.specs.Cells.{encoded}
 use Rattle.heap_words.specs.declared.cell.Cell.TheVariants.{Small, Raw, Status}
 use Rattle.heap_words.specs.declared.cell.Stand.TheVariants.{Ready}

@@ -1,15 +1,8 @@
-use Rattle.std.proofs.Common.{◌≡◌, ℕ, ◌+◌, ◌<◌, ◌∙◌, sym, ap, arith, rules, length, None, refl, w64, to_z, of_z, to_z-of_z}
-use Rattle.std.specs.Option.{option_and_then}
+use Rattle.std.proofs.Common.{◌≡◌, ◌+◌, ◌∙◌, sym, ap, arith, rules, length, w64, to_z, of_z, to_z-of_z}
 use Rattle.fcp_model.specs.declared.term.Term.{Int}
-use Rattle.fcp_model.specs.Terms.{cons}
-use Rattle.fcp_model.specs.Translation.{term_of}
-use Rattle.goal_layout.specs.FirstFit.{fit, first_fit}
-use Rattle.goal_layout.specs.PieceSizes.{part_sizes}
-use Rattle.goal_layout.specs.Laying.{parts_of}
-use Rattle.goal_layout.specs.Pages.{rooms}
 use Rattle.goal_layout.proofs.Leaves.{number_laid, variable_laid, read_only_laid}
-use Rattle.goal_layout.proofs.Listing.{listing_begins, listing_step, listing_ends, head_next, head_misses, item_misses, pair_misses, item_next, none_if}
-use Rattle.goal_layout.proofs.Tupling.{tupling_begins, tupling_step, tupling_ends, part_next, part_misses, few_parts, tuple_misses}
+use Rattle.goal_layout.proofs.Listing.{listing_begins, listing_step, listing_ends, head_misses, item_misses, none_if}
+use Rattle.goal_layout.proofs.Tupling.{tupling_begins, tupling_step, tupling_ends, part_misses, few_parts, tuple_misses}
 use Rattle.goal_layout.proofs.terms.+terms.Goals as goal
 
 pub lay_list-loop-rest-init : goal.lay_list-loop-rest-init

@@ -1,5 +1,3 @@
-use Rattle.fcp_model.specs.declared.term.Term.{size-Term}
-use Rattle.fcp_model.specs.Translation.{term_of}
 use Rattle.goal_layout.proofs.Listing.{IsListing}
 use Rattle.goal_layout.proofs.Tupling.{IsTupling}
 use Rattle.goal_layout.proofs.terms.+terms.Given as goal
