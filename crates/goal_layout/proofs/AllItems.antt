@@ -1,5 +1,6 @@
 -- The loop over a goal's items.
-use Rattle.std.proofs.Common.{◌≡◌, ℕ, zero, suc, ◌+◌, ◌*◌, ◌/◌, ◌<◌, ◌≤◌, List, [], ◌∷◌, ◌++◌, length, get_or, slice_get, Some, None, refl, sym, ap, ◌∙◌, subst, arith, drop_of_length-le}
+use Rattle.std.proofs.Common.{◌≡◌, ℕ, zero, suc, ◌+◌, ◌*◌, ◌/◌, ◌<◌, ◌≤◌, List, [], ◌∷◌, ◌++◌, length, get_or, slice_get, Some, None}
+use Rattle.std.proofs.Common.{refl, sym, ap, ◌∙◌, subst, arith, drop_of_length-le}
 use Rattle.std.specs.Prelude.{replicate, sum}
 use Rattle.std.specs.List.{flat_map}
 use Rattle.std.specs.Option.{option_and_then}
@@ -28,7 +29,8 @@ use Rattle.goal_layout.proofs.Placing.{new_page}
 use Rattle.goal_layout.proofs.FirstStates.{Standing, places_stand, goal_misses, standing_more}
 use Rattle.goal_layout.proofs.FirstStands.{first_heap, first_book, first_stands}
 
-over_at : (vars n : ℕ) (gs : List (Goal ℕ)) (d : Goal ℕ) → GoalsOver (IsNumbered vars) gs → n < length gs → GoalOver (IsNumbered vars) (get_or gs n d)
+over_at : (vars n : ℕ) (gs : List (Goal ℕ)) (d : Goal ℕ) → GoalsOver (IsNumbered vars) gs → n < length gs
+    → GoalOver (IsNumbered vars) (get_or gs n d)
 over_at vars n [] d h lt = absurd (omega arith)
 over_at vars zero (g ∷ gs) d h lt = h.0
 over_at vars (suc n) (g ∷ gs) d h lt = over_at vars n gs d h.1 (omega arith)
@@ -68,7 +70,8 @@ module _ (m : Module) (g : GoalText × List ℕ) (l : IsLaidIn m g) (n : ℕ) (i
   pub its_layable : IsLayable m item.call f
   its_layable = record {
     number = its_number;
-    narrow = subst IsNarrowGoal (sym (its_goal (called m item.call))) (narrow_at n gs (called m item.call) l.narrow (omega (arith, size, lt)));
+    narrow = subst IsNarrowGoal (sym (its_goal (called m item.call)))
+        (narrow_at n gs (called m item.call) l.narrow (omega (arith, size, lt)));
     numbered = (length g.0.names, its_over);
   }
 
@@ -77,7 +80,8 @@ module _ (m : Module) (g : GoalText × List ℕ) (l : IsLaidIn m g) (n : ℕ) (i
     item_misses none =
         goal_misses (length g.0.names) l.variables gs n base ws [] procs (called m item.call) 0 (omega (arith, size, lt)) its_goal s none
 
-    pub item_more : (ws' : List ℕ) (p : ℕ) → LaysItemAlways item.call f (n + 1) p ws ws' → Standing (length g.0.names) gs (n + 1) base ws' (procs ++ p ∷ [])
+    pub item_more : (ws' : List ℕ) (p : ℕ) → LaysItemAlways item.call f (n + 1) p ws ws'
+        → Standing (length g.0.names) gs (n + 1) base ws' (procs ++ p ∷ [])
     item_more ws' p laid =
         standing_more (length g.0.names) l.variables gs n base ws ws' procs (called m item.call) p (omega (arith, size, lt)) its_goal s
         (laid m its_number (length g.0.names) its_over)
@@ -98,7 +102,8 @@ items_begin g base w0 w1 item f p (m, l) is number places laid = record {
   where
     one : (k : Module) (j : IsLaidIn k g) → Standing (length g.0.names) (started_goals k g.0) 1 base w1 (p ∷ [])
     one k j =
-        item_more k g j 0 item f j.some is number base w0 [] (places_stand (length g.0.names) (started_goals k g.0) base w0 places) w1 p laid
+        item_more k g j 0 item f j.some is number base w0 []
+        (places_stand (length g.0.names) (started_goals k g.0) base w0 places) w1 p laid
 
 pub items_step : (g : GoalText × List ℕ) (n : ℕ) (base ws ws' : List ℕ) (item : Item) (f p first k : ℕ) → (m : Module) × IsLaidIn m g
     → n < length g.0.items → item ≡ get_or g.0.items n item → f ≡ get_or g.1 n 0 → k ≡ n + 1 → LaysItemAlways item.call f k p ws ws'
@@ -148,10 +153,14 @@ items_end g n base ws first m new l hi s =
     let items = l.items in
     let pages = s.pages in
     record {
-      fits = r.1.fits ∙ ap (λ us. first_fit (rooms ws) (flat_map goal_sizes us)) (drop_of_length-le (started_goals m g.0) (omega (arith, size, hi)));
-      heap = first_heap (length g.0.names) l.variables (started_goals m g.0) n base ws r.0 (omega (arith, size, hi)) (omega (arith, size, items)) r.1;
-      book = first_book (length g.0.names) l.variables (started_goals m g.0) n base ws r.0 (omega (arith, size, hi)) (omega (arith, size, items)) r.1;
-      stands = first_stands (length g.0.names) l.variables (started_goals m g.0) n base ws r.0 (omega (arith, size, hi)) (omega (arith, size, items)) r.1;
+      fits = r.1.fits ∙ ap (λ us. first_fit (rooms ws) (flat_map goal_sizes us))
+          (drop_of_length-le (started_goals m g.0) (omega (arith, size, hi)));
+      heap = first_heap (length g.0.names) l.variables (started_goals m g.0) n base ws r.0 (omega (arith, size, hi))
+          (omega (arith, size, items)) r.1;
+      book = first_book (length g.0.names) l.variables (started_goals m g.0) n base ws r.0 (omega (arith, size, hi))
+          (omega (arith, size, items)) r.1;
+      stands = first_stands (length g.0.names) l.variables (started_goals m g.0) n base ws r.0 (omega (arith, size, hi))
+          (omega (arith, size, items)) r.1;
       first = r.2;
       tops = λ q h. let up = pages.above q (omega (arith, h, r.1.size)) in omega (arith, new_page base new q h, up);
     }

@@ -1,5 +1,6 @@
 -- A process with its arguments is the process of an item.
-use Rattle.std.proofs.Common.{◌≡◌, ℕ, zero, suc, ◌+◌, ◌<◌, ◌≤◌, pos, Bool, true, false, cond, List, [], ◌∷◌, ◌++◌, length, map, Option, Some, refl, sym, ap, ◌∙◌, subst, arith}
+use Rattle.std.proofs.Common.{◌≡◌, ℕ, zero, suc, ◌+◌, ◌<◌, ◌≤◌, pos, Bool, true, false, cond, List, [], ◌∷◌, ◌++◌, length, map, Option}
+use Rattle.std.proofs.Common.{Some, refl, sym, ap, ◌∙◌, subst, arith}
 use Rattle.std.specs.Prelude.{IfSome, nat_eq, nat_lt, position, ◌&&◌}
 use Rattle.std.specs.List.{position_or_len}
 use Rattle.std.proofs.lemmas.Bool.{and_from, eq-eqb, ne_eqb, ltb-true}
@@ -28,8 +29,10 @@ use Rattle.goal_layout.specs.Laying.{places_of, settled_term}
 use Rattle.goal_layout.specs.Items.{IsNumberIn, LaysHeaded, LaysCall, LaysItem, called, settled_goal}
 
 -- a head, and what the words after it say
-pub headed_item : (vars : ℕ) (sizes : List ℕ) (g : Goal ℕ) (k f p : ℕ) (xs ws ws' : List ℕ) → LaysHeaded (places_of vars) sizes k f xs p ws ws'
-    → sizes ++ (4 + length xs) ∷ [] ≡ goal_sizes g → GoalSays (inside_at ws') (places_of vars) p (settled_goal g) → LaysItem vars g k p ws ws'
+pub headed_item : (vars : ℕ) (sizes : List ℕ) (g : Goal ℕ) (k f p : ℕ) (xs ws ws' : List ℕ)
+    → LaysHeaded (places_of vars) sizes k f xs p ws ws'
+    → sizes ++ (4 + length xs) ∷ [] ≡ goal_sizes g → GoalSays (inside_at ws') (places_of vars) p (settled_goal g)
+    → LaysItem vars g k p ws ws'
 headed_item vars sizes g k f p xs ws ws' h e says = record {
   pages = h.pages;
   size = h.size;
@@ -54,7 +57,8 @@ call_item vars ts f k p ws ws' lt l =
       lt,
     )
 
-pub true_item : (vars : ℕ) (f k p : ℕ) (ws ws' : List ℕ) → f ≡ TRUE_PROCEDURE → LaysCall vars [] f k p ws ws' → LaysItem vars true' k p ws ws'
+pub true_item : (vars : ℕ) (f k p : ℕ) (ws ws' : List ℕ) → f ≡ TRUE_PROCEDURE → LaysCall vars [] f k p ws ws'
+    → LaysItem vars true' k p ws ws'
 true_item vars f k p ws ws' e l =
     headed_item vars [] true' k f p l.words ws ws' l.headed (ap (λ n. (4 + n) ∷ []) l.count) (
       (l.headed.procedure.0, l.headed.procedure.1, l.headed.procedure.2 ∙ ap (λ n. Some (Raw n)) e),
@@ -106,7 +110,9 @@ module _ (hs : List ProcedureName) (few : length hs ≤ TRUE_PROCEDURE) (name : 
       → cond (nat_eq name.0 0 && nat_eq n 0) (Some TRUE_PROCEDURE) (position (same_procedure (name_with_arity name n)) hs) ≡ Some f
       → LaysItem vars (user_goal hs name n ts) k p ws ws'
   user_item zero e is = no_arguments name.0 refl e is
-  user_item (suc n) e is = named (suc n) (ap (λ b. cond b (Some TRUE_PROCEDURE) (position (same_procedure (name_with_arity name (suc n))) hs)) (sym (off name.0)) ∙ is)
+  user_item (suc n) e is =
+      named (suc n) (ap (λ b. cond b (Some TRUE_PROCEDURE) (position (same_procedure (name_with_arity name (suc n))) hs))
+      (sym (off name.0)) ∙ is)
     where
       off : (i : ℕ) → (nat_eq i 0 && nat_eq (suc n) 0) ≡ false
       off i = and_false (nat_eq i 0) (nat_eq (suc n) 0) (ne_eqb (suc n) 0 (λ z. omega (arith, z)))
@@ -122,7 +128,9 @@ pub user_laid : (m : Module) (call : Call) (name : Sym) (args args' : List sourc
     → ((n : ℕ) → AllOver (IsNumbered n) (map term_of args') → IfSome o (λ p. LaysCall n (map term_of args') f k p ws ws'))
     → GoalOver (IsNumbered vars) (called m call) → IfSome o (λ p. LaysItem vars (called m call) k p ws ws')
 user_laid m call name args args' o f k vars ws ws' e ea is laid over =
-    IfSome_then o (laid vars (user_over (procedure_names m.clauses) name (length args) (map term_of args') vars size (subst (GoalOver (IsNumbered vars)) shape over))) (λ p l.
+    IfSome_then o (laid vars
+    (user_over (procedure_names m.clauses) name (length args) (map term_of args') vars size
+    (subst (GoalOver (IsNumbered vars)) shape over))) (λ p l.
     subst (λ g. LaysItem vars g k p ws ws') (sym shape)
     (user_item (procedure_names m.clauses) is.few name (map term_of args') vars f k p ws ws' l (length args) size
     (ap (number_of_call m) (sym e) ∙ is.number)))

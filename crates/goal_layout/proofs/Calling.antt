@@ -1,5 +1,6 @@
 -- The loop over a call's arguments.
-use Rattle.std.proofs.Common.{◌≡◌, ℕ, zero, suc, ◌+◌, ◌<◌, ◌≤◌, List, [], ◌∷◌, ◌++◌, length, map, set, take, drop, get_or, Some, None, refl, sym, ap, ◌∙◌, subst, arith, append_assoc, append-nil, drop_of_length-le}
+use Rattle.std.proofs.Common.{◌≡◌, ℕ, zero, suc, ◌+◌, ◌<◌, ◌≤◌, List, [], ◌∷◌, ◌++◌, length, map, set, take, drop, get_or, Some, None}
+use Rattle.std.proofs.Common.{refl, sym, ap, ◌∙◌, subst, arith, append_assoc, append-nil, drop_of_length-le}
 use Rattle.std.specs.Option.{option_and_then}
 use Rattle.std.proofs.Math.Seq.{drop-cons}
 use Rattle.std.proofs.lemmas.List.{length-map, length-set, take_more, take_more_set, map-append, take_all, length-take-le}
@@ -76,7 +77,8 @@ module _ (ts : List source.Term) (n : ℕ) (base ws found : List ℕ) (t : sourc
       ∙ first_fit-append (rooms ws) (term_sizes (term_of t)) (all_sizes (map term_of (drop (n + 1) ts)))
       ∙ ap (option_and_then (λ ss. first_fit ss (all_sizes (map term_of (drop (n + 1) ts))))) none)
 
-  split : (k : ℕ) → AllOver (IsNumbered k) (map term_of ts) → Over (IsNumbered k) (term_of t) × AllOver (IsNumbered k) (map term_of (drop (n + 1) ts))
+  split : (k : ℕ) → AllOver (IsNumbered k) (map term_of ts)
+      → Over (IsNumbered k) (term_of t) × AllOver (IsNumbered k) (map term_of (drop (n + 1) ts))
   split k o = subst (λ us. AllOver (IsNumbered k) (map term_of us)) cut (l.args k o).0
 
   pub calling_step : (w1 : List ℕ) (y : ℕ) → (vars : ℕ) × AllOver (IsNumbered vars) (map term_of ts) → length ts ≤ 64
@@ -104,7 +106,8 @@ module _ (ts : List source.Term) (n : ℕ) (base ws found : List ℕ) (t : sourc
             left = append_assoc f.sizes (term_sizes (term_of t)) (all_sizes (map term_of (drop (n + 1) ts)))
                 ∙ ap (λ us. f.sizes ++ all_sizes (map term_of us)) (sym cut)
                 ∙ f.left;
-            done = subst (λ us. AllDenote (inside_at w1) (places_of k) us (settled_all (take (n + 1) ts))) (sym (take_more_set found n y room))
+            done = subst (λ us. AllDenote (inside_at w1) (places_of k) us (settled_all (take (n + 1) ts)))
+                (sym (take_more_set found n y room))
                 (subst (AllDenote (inside_at w1) (places_of k) (take n found ++ y ∷ [])) (sym longer)
                 (denote_more (inside_at w1) (places_of k) (take n found) (settled_all (take n ts)) y (settled_term (term_of t))
                 (denote_on (inside_at ws) (inside_at w1) (places_of k) (take n found) (settled_all (take n ts))
@@ -112,7 +115,8 @@ module _ (ts : List source.Term) (n : ℕ) (base ws found : List ℕ) (t : sourc
           }
 
 -- past the end no more is taken of the words
-denotes_front : (w : Words) (vs : Addresses) (m n : ℕ) (found : List ℕ) (ts : List source.Term) → m ≤ n → AllDenote w vs (take n found) (settled_all (take n ts))
+denotes_front : (w : Words) (vs : Addresses) (m n : ℕ) (found : List ℕ) (ts : List source.Term) → m ≤ n
+    → AllDenote w vs (take n found) (settled_all (take n ts))
     → AllDenote w vs (take m found) (settled_all (take m ts))
 denotes_front w vs zero n found ts h d = tt
 denotes_front w vs (suc m) zero found ts h d = absurd (omega arith)
@@ -122,7 +126,8 @@ denotes_front w vs (suc m) (suc n) (x ∷ found) [] h d = absurd d
 denotes_front w vs (suc m) (suc n) (x ∷ found) (t ∷ ts) h d = (d.0, denotes_front w vs m n found ts (omega arith) d.1)
 
 -- all arguments are laid, and then the process
-module _ (ts : List source.Term) (n : ℕ) (base ws found : List ℕ) (hi : length ts ≤ n) (few : length ts ≤ 64) (l : IsCalling ts n base ws found) where
+module _ (ts : List source.Term) (n : ℕ) (base ws found : List ℕ) (hi : length ts ≤ n) (few : length ts ≤ 64)
+    (l : IsCalling ts n base ws found) where
   pub words_found : length (take (length ts) found) ≡ length ts
   words_found = length-take-le (length ts) found (let r = l.room in omega (arith, few, r))
 
@@ -158,7 +163,8 @@ module _ (ts : List source.Term) (n : ℕ) (base ws found : List ℕ) (hi : leng
 
       lays : Lays vs (all_sizes (map term_of ts)) base ws
       lays = subst (λ k. Lays vs k base ws)
-          (sym (append-nil found'.sizes) ∙ ap (λ us. found'.sizes ++ all_sizes (map term_of us)) (sym (drop_of_length-le ts hi)) ∙ found'.left)
+          (sym (append-nil found'.sizes) ∙ ap (λ us. found'.sizes ++ all_sizes (map term_of us)) (sym (drop_of_length-le ts hi))
+          ∙ found'.left)
           found'.lays
 
       says : AllDenote (inside_at ws) vs xs (settled_all ts)

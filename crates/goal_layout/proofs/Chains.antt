@@ -1,5 +1,6 @@
 -- A list is laid pair after pair: the last pair's second word is still to be written.
-use Rattle.std.proofs.Common.{◌≡◌, ℕ, suc, ◌%◌, Bool, true, false, cond, List, [], ◌∷◌, length, set, slice_get, Some, None, refl, sym, ap, ◌∙◌, subst, arith, ◌⊎◌, inl, inr, ⊎_elim}
+use Rattle.std.proofs.Common.{◌≡◌, ℕ, suc, ◌%◌, Bool, true, false, cond, List, [], ◌∷◌, length, set, slice_get, Some, None, refl, sym, ap}
+use Rattle.std.proofs.Common.{◌∙◌, subst, arith, ◌⊎◌, inl, inr, ⊎_elim}
 use Rattle.std.specs.Option.{option_and_then}
 use Rattle.std.proofs.lemmas.Bool.{cases_eq, false≢true}
 use Rattle.std.proofs.lemmas.List.{length-set}
@@ -20,7 +21,9 @@ use Rattle.goal_layout.specs.Laying.{IsBlank, IsSaid, Lays, settled_term}
 use Rattle.goal_layout.proofs.Insides.{not_inside}
 use Rattle.word_states.proofs.Persisting.{denotes_on, denotes_final}
 use Rattle.goal_layout.proofs.Leaves.{taken_blank}
-use Rattle.goal_layout.proofs.Lays.{first_fit-append, zero_moves, top_quiet, final_off, kept_word, said_on, take_lays, lays_then, blank_on, written_inside, written_other, written_word, written_pages, written_rooms, written_grows, lays_written}
+use Rattle.goal_layout.proofs.Lays.{first_fit-append, zero_moves, top_quiet, final_off, kept_word, said_on, take_lays, lays_then}
+use Rattle.goal_layout.proofs.Lays.{blank_on, written_inside, written_other, written_word, written_pages, written_rooms, written_grows}
+use Rattle.goal_layout.proofs.Lays.{lays_written}
 
 -- what was in use is as before, but for tops and the word at `hole`
 abbrev pub Follows : ℕ → List ℕ → List ℕ → Type 0
@@ -29,7 +32,8 @@ Follows hole ws ws' = (a : ℕ) → is_inside ws a ≡ true → (a % 1024 ≡ 0 
 
 -- what was in use is now what stood there in the beginning, or is said
 abbrev pub Settles : Addresses → List ℕ → List ℕ → List ℕ → Type 0
-Settles vs base ws ws' = (a x : ℕ) → is_inside ws a ≡ true → inside_at ws' a ≡ Some x → (inside_at base a ≡ Some x) ⊎ IsSaid (inside_at ws') vs x
+Settles vs base ws ws' = (a x : ℕ) → is_inside ws a ≡ true → inside_at ws' a ≡ Some x
+    → (inside_at base a ≡ Some x) ⊎ IsSaid (inside_at ws') vs x
 
 -- The pairs so far are laid. Once the word at `hole` denotes the rest, the word `list` denotes the whole.
 pub record Chain (vs : Addresses) (sizes base ws : List ℕ) (list hole : ℕ) (rest whole : Term ℕ) : Type 0 where
@@ -105,7 +109,8 @@ chain_begins vs base w1 w2 c y x hole h t takes laid says is e =
     subst (λ k. Chain vs (term_sizes (cons h t)) base (set w2 c y) x k t (cons h t)) (sym e) (record {
       pages = p.pages;
       size = p.size;
-      fits = first_fit-append (rooms base) (2 ∷ term_sizes h) (term_sizes t) ∙ ap (option_and_then (λ ss. first_fit ss (term_sizes t))) p.fits;
+      fits = first_fit-append (rooms base) (2 ∷ term_sizes h) (term_sizes t)
+          ∙ ap (option_and_then (λ ss. first_fit ss (term_sizes t))) p.fits;
       kept = p.kept;
       new = pair_free vs base w1 w2 c y x h takes laid says is;
       blank = b;
@@ -169,7 +174,8 @@ module _ (vs : Addresses) (sizes base ws w1 w2 : List ℕ) (list hole c y z : �
   grows34 = written_grows w3 hole z more.pages hole_blank
 
   -- what was in use before, other than the hole
-  old_kept : (a : ℕ) → is_inside ws a ≡ true → (a % 1024 ≡ 0 → ⊥) → (a ≡ hole → ⊥) → (is_inside w4 a ≡ true) × (slice_get w4 a ≡ slice_get ws a)
+  old_kept : (a : ℕ) → is_inside ws a ≡ true → (a % 1024 ≡ 0 → ⊥) → (a ≡ hole → ⊥)
+      → (is_inside w4 a ≡ true) × (slice_get w4 a ≡ slice_get ws a)
   old_kept a i off d =
       let k = more.kept a i off in
       (written_inside w3 hole z more.pages hole_blank a ∙ k.0, slice_get-set_other w3 hole a z d ∙ k.1)

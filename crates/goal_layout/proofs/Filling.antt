@@ -1,5 +1,6 @@
 -- The words of a piece are written one after another.
-use Rattle.std.proofs.Common.{◌≡◌, ℕ, suc, ◌+◌, ◌%◌, ◌<◌, ◌≤◌, List, [], ◌∷◌, ◌++◌, length, set, take, get_or, Some, sym, ap, ◌∙◌, subst, arith, inl, inr, ⊎_elim, append_assoc}
+use Rattle.std.proofs.Common.{◌≡◌, ℕ, suc, ◌+◌, ◌%◌, ◌<◌, ◌≤◌, List, [], ◌∷◌, ◌++◌, length, set, take, get_or, Some, sym, ap, ◌∙◌, subst}
+use Rattle.std.proofs.Common.{arith, inl, inr, ⊎_elim, append_assoc}
 use Rattle.std.proofs.lemmas.Bool.{cases_eq, cases_lt, false≢true}
 use Rattle.std.proofs.lemmas.List.{length-set, length-append, take_more, length-take-le}
 use Rattle.heap_words.specs.Heaps.{is_inside, inside_at}
@@ -15,7 +16,8 @@ pub stand_more : (w : Words) (a : ℕ) (xs : List ℕ) (x : ℕ) → StandAt w a
 stand_more w a [] x h e = (subst (λ k. w k ≡ Some x) (omega arith) e, tt)
 stand_more w a (y ∷ xs) x h e = (h.0, stand_more w (suc a) xs x h.1 (subst (λ k. w k ≡ Some x) (omega arith) e))
 
-pub stand_same : (w w' : Words) (a : ℕ) (xs : List ℕ) → ((b : ℕ) → a ≤ b → b < a + length xs → w' b ≡ w b) → StandAt w a xs → StandAt w' a xs
+pub stand_same : (w w' : Words) (a : ℕ) (xs : List ℕ) → ((b : ℕ) → a ≤ b → b < a + length xs → w' b ≡ w b) → StandAt w a xs
+    → StandAt w' a xs
 stand_same w w' a [] f h = tt
 stand_same w w' a (x ∷ xs) f h =
     (f a (omega arith) (omega arith) ∙ h.0, stand_same w w' (suc a) xs (λ b l u. f b (omega arith) (omega arith)) h.1)
@@ -50,7 +52,8 @@ fills_more ws ws' n a c x xs lt ec f = record {
   inside = f.inside;
   free = f.free;
   stand = stand_more (inside_at (set ws' c x)) a xs x
-      (stand_same (inside_at ws') (inside_at (set ws' c x)) a xs (λ k l h. written_other ws' c x f.pages b k (λ e. omega (arith, e, ec))) f.stand)
+      (stand_same (inside_at ws') (inside_at (set ws' c x)) a xs
+      (λ k l h. written_other ws' c x f.pages b k (λ e. omega (arith, e, ec))) f.stand)
       (subst (λ k. inside_at (set ws' c x) k ≡ Some x) ec (written_word ws' c x f.pages b));
   blank = λ k l h.
       let longer : length (xs ++ x ∷ []) ≡ length xs + 1 = length-append xs (x ∷ []) in
@@ -83,7 +86,8 @@ fills_four ws w1 n a x0 x1 x2 x3 y0 y1 y2 y3 t e0 e1 e2 e3 =
 pub fills_next : (ws ws' : List ℕ) (a c x i : ℕ) (front xs : List ℕ) → length front ≡ 4 → i < length xs → x ≡ get_or xs i 0 → c ≡ a + 4 + i
     → Fills (4 + length xs) a (front ++ take i xs) ws ws' → Fills (4 + length xs) a (front ++ take (i + 1) xs) ws (set ws' c x)
 fills_next ws ws' a c x i front xs four lt ex ec f =
-    let size : length (front ++ take i xs) ≡ 4 + i = length-append front (take i xs) ∙ (λ k. four k + length-take-le i xs (omega arith) k) in
+    let size : length (front ++ take i xs) ≡ 4 + i = length-append front (take i xs)
+    ∙ (λ k. four k + length-take-le i xs (omega arith) k) in
     let longer : (front ++ take i xs) ++ x ∷ [] ≡ front ++ take (i + 1) xs =
     append_assoc front (take i xs) (x ∷ []) ∙ ap (λ ys. front ++ ys) (ap (λ y. take i xs ++ y ∷ []) ex ∙ sym (take_more xs i 0 lt)) in
     subst (λ ys. Fills (4 + length xs) a ys ws (set ws' c x)) longer

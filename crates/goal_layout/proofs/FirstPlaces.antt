@@ -15,6 +15,7 @@ listed_number from (suc n) v a (inr h) =
     let hi = r.2 in
     (r.0, omega (arith, lo), omega (arith, hi), r.3, r.4)
 
-pub place_names : (from n : ℕ) → map (λ (b : Variable × ℕ). b.0) (map (λ k. (placed 0 k, 2 * k)) (count_up from n)) ≡ map made (map (place 0) (count_up from n))
+pub place_names : (from n : ℕ)
+    → map (λ (b : Variable × ℕ). b.0) (map (λ k. (placed 0 k, 2 * k)) (count_up from n)) ≡ map made (map (place 0) (count_up from n))
 place_names from zero = refl
 place_names from (suc n) = ap (λ vs. placed 0 from ∷ vs) (place_names (suc from) n)

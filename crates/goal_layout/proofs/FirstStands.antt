@@ -1,5 +1,6 @@
 -- Where all items are laid, the words stand for the first state.
-use Rattle.std.proofs.Common.{◌≡◌, ℕ, zero, suc, ◌+◌, ◌-◌, ◌*◌, ◌<◌, ◌≤◌, pos, true, List, [], ◌∷◌, length, map, slice_get, Some, None, refl, sym, ap, ◌∙◌, subst, arith, ⊎_elim}
+use Rattle.std.proofs.Common.{◌≡◌, ℕ, zero, suc, ◌+◌, ◌-◌, ◌*◌, ◌<◌, ◌≤◌, pos, true, List, [], ◌∷◌, length, map, slice_get, Some, None}
+use Rattle.std.proofs.Common.{refl, sym, ap, ◌∙◌, subst, arith, ⊎_elim}
 use Rattle.std.specs.Prelude.{nat_eq}
 use Rattle.std.proofs.lemmas.Bool.{and_parts, eqb-true, cases_eq}
 use Rattle.std.proofs.lemmas.List.{length-map, take_all}
@@ -23,14 +24,16 @@ use Rattle.goal_layout.specs.Items.{settled_goal}
 use Rattle.word_states.proofs.Persisting.{one_cell}
 use Rattle.goal_layout.proofs.Heaping.{AreLaid, laid_heap, laid_status}
 use Rattle.goal_layout.proofs.FirstPlaces.{listed_number, place_names}
-use Rattle.goal_layout.proofs.FirstProcesses.{AreAt, are_count, count_processes, one_of, IsAt, stands_is, stands_says, in_stands, one_position}
+use Rattle.goal_layout.proofs.FirstProcesses.{AreAt, are_count, count_processes, one_of, IsAt, stands_is, stands_says, in_stands}
+use Rattle.goal_layout.proofs.FirstProcesses.{one_position}
 use Rattle.goal_layout.proofs.FirstStates.{Standing}
 
 zero_word : decoded 0 ≡ Some (cell.Unbound 0)
 unfolding decoded
 zero_word = refl
 
-argument_known : (ws : List ℕ) (vs : Addresses) (a b : ℕ) (ts : List (Term Variable)) → Arguments (inside_at ws) vs a ts → a ≤ b → b < a + length ts
+argument_known : (ws : List ℕ) (vs : Addresses) (a b : ℕ) (ts : List (Term Variable)) → Arguments (inside_at ws) vs a ts → a ≤ b
+    → b < a + length ts
     → is_inside ws b ≡ true
 argument_known ws vs a b [] h lo hi = absurd (omega arith)
 argument_known ws vs a b (t ∷ ts) h lo hi = go (b - a) refl (argument_known ws vs (suc a) b ts h.3)

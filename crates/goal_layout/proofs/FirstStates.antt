@@ -1,5 +1,6 @@
 -- The items are laid one after another, and then the words stand for the first state.
-use Rattle.std.proofs.Common.{◌≡◌, ℕ, suc, ◌+◌, ◌-◌, ◌*◌, ◌%◌, ◌<◌, ◌≤◌, pos, true, List, [], ◌∷◌, ◌++◌, length, take, drop, get_or, Some, None, refl, sym, ap, ◌∙◌, subst, arith, inl, inr, ⊎_elim}
+use Rattle.std.proofs.Common.{◌≡◌, ℕ, suc, ◌+◌, ◌-◌, ◌*◌, ◌%◌, ◌<◌, ◌≤◌, pos, true, List, [], ◌∷◌, ◌++◌, length, take, drop, get_or, Some}
+use Rattle.std.proofs.Common.{None, refl, sym, ap, ◌∙◌, subst, arith, inl, inr, ⊎_elim}
 use Rattle.std.specs.List.{flat_map}
 use Rattle.std.specs.Option.{option_and_then}
 use Rattle.std.proofs.Math.Seq.{drop-cons}
@@ -44,7 +45,8 @@ pub places_stand : (vars : ℕ) (gs : List (Goal ℕ)) (base ws : List ℕ) → 
 places_stand vars gs base ws l = record {
   pages = l.pages;
   size = l.size;
-  fits = first_fit-append (rooms base) _ (flat_map goal_sizes gs) ∙ ap (option_and_then (λ ss. first_fit ss (flat_map goal_sizes gs))) l.fits;
+  fits = first_fit-append (rooms base) _ (flat_map goal_sizes gs)
+      ∙ ap (option_and_then (λ ss. first_fit ss (flat_map goal_sizes gs))) l.fits;
   all = λ a x e. inl (inl (l.quiet a x e));
   names = l.names;
   words = l.words;
@@ -112,7 +114,8 @@ module _ (vars : ℕ) (few : vars ≤ 250) (gs : List (Goal ℕ)) (n : ℕ) (bas
           (λ i. sort_on a x (s.all a x i))
           (λ i. ⊎_elim (λ j. inl j) (λ j. inr (subst (λ k. IsIn k more) (sym j.0) (in_last p procs), j.1)) i)
           (l.said a x e);
-      names = λ k lo hi. at_on (inside_at ws) (inside_at ws') vs vs grows (λ v a m. m) (2 * k - 1) (cell.Small (pos k)) (s.names k lo hi) refl;
+      names = λ k lo hi. at_on (inside_at ws) (inside_at ws') vs vs grows (λ v a m. m) (2 * k - 1) (cell.Small (pos k))
+          (s.names k lo hi) refl;
       words = λ k lo hi.
           let e = s.words k lo hi in
           kept_word ws ws' (2 * k) 0 (l.kept (2 * k) (inside_known ws (2 * k) 0 e) (λ m. omega (arith, m, lo, hi, few))) e;

@@ -1,5 +1,6 @@
 -- A process is laid after the pieces of its arguments.
-use Rattle.std.proofs.Common.{◌≡◌, ℕ, suc, ◌+◌, ◌%◌, ◌<◌, ◌≤◌, pos, true, false, List, [], ◌∷◌, ◌++◌, length, Some, refl, sym, ap, ◌∙◌, subst, arith, ◌⊎◌, inl, inr, ⊎_elim}
+use Rattle.std.proofs.Common.{◌≡◌, ℕ, suc, ◌+◌, ◌%◌, ◌<◌, ◌≤◌, pos, true, false, List, [], ◌∷◌, ◌++◌, length, Some, refl, sym, ap, ◌∙◌}
+use Rattle.std.proofs.Common.{subst, arith, ◌⊎◌, inl, inr, ⊎_elim}
 use Rattle.std.specs.Option.{option_and_then}
 use Rattle.std.proofs.lemmas.Int.{ints}
 use Rattle.std.proofs.lemmas.Bool.{cases_eq, cases_lt, false≢true}
@@ -48,7 +49,8 @@ args_denote w vs a [] (t ∷ ts) s h = absurd h
 args_denote w vs a (x ∷ xs) [] s h = absurd h
 args_denote w vs a (x ∷ xs) (t ∷ ts) s h = (x, s.0, h.0, args_denote w vs (suc a) xs ts s.1 h.1)
 
-pub denote_on : (w w' : Words) (vs : Addresses) (xs : List ℕ) (ts : List (Term Variable)) → Grows w w' → AllDenote w vs xs ts → AllDenote w' vs xs ts
+pub denote_on : (w w' : Words) (vs : Addresses) (xs : List ℕ) (ts : List (Term Variable)) → Grows w w' → AllDenote w vs xs ts
+    → AllDenote w' vs xs ts
 denote_on w w' vs [] [] g h = tt
 denote_on w w' vs [] (t ∷ ts) g h = absurd h
 denote_on w w' vs (x ∷ xs) [] g h = absurd h
@@ -71,7 +73,8 @@ denote_count w vs (x ∷ xs) (t ∷ ts) h = ap suc (denote_count w vs xs ts h.1)
 stands_said : (w : Words) (vs : Addresses) (a : ℕ) (xs : List ℕ) (b x : ℕ) → StandAt w a xs → AllSaid w vs xs → a ≤ b → b < a + length xs
     → w b ≡ Some x → IsSaid w vs x
 stands_said w vs a [] b x s h lo hi e = absurd (omega arith)
-stands_said w vs a (y ∷ xs) b x s h lo hi e = go (cases_eq a b) (λ d. stands_said w vs (suc a) xs b x s.1 h.1 (omega (arith, d)) (omega arith) e)
+stands_said w vs a (y ∷ xs) b x s h lo hi e =
+    go (cases_eq a b) (λ d. stands_said w vs (suc a) xs b x s.1 h.1 (omega (arith, d)) (omega arith) e)
   where
     go : (a ≡ b) ⊎ (a ≡ b → ⊥) → ((a ≡ b → ⊥) → IsSaid w vs x) → IsSaid w vs x
     go (inl d) f = subst (IsSaid w vs) (same_Some y x (sym s.0 ∙ ap w d ∙ e)) h.0
@@ -101,7 +104,8 @@ module _ (vs : Addresses) (sizes : List ℕ) (k f : ℕ) (xs : List ℕ) (p : �
   procedure_at = cell_at (p + 2) _ (Raw f) (subst (λ a. inside_at w2 a ≡ Some (encoded (Raw f))) (omega arith) h.stand.1.1.0) refl call
 
   count_at : At (inside_at w2) (p + 3) (Raw (length xs))
-  count_at = cell_at (p + 3) _ (Raw (length xs)) (subst (λ a. inside_at w2 a ≡ Some (encoded (Raw (length xs)))) (omega arith) h.stand.1.1.1.0) refl few
+  count_at = cell_at (p + 3) _ (Raw (length xs))
+      (subst (λ a. inside_at w2 a ≡ Some (encoded (Raw (length xs)))) (omega arith) h.stand.1.1.1.0) refl few
 
   args_at : StandAt (inside_at w2) (p + 4) xs
   args_at = subst (λ a. StandAt (inside_at w2) a xs) (omega arith) h.stand.1.1.1.1
@@ -119,7 +123,11 @@ module _ (vs : Addresses) (sizes : List ℕ) (k f : ℕ) (xs : List ℕ) (p : �
   own_word : (a x : ℕ) → p ≤ a → a < p + (4 + length xs) → inside_at w2 a ≡ Some x
       → IsSaid (inside_at w2) vs x ⊎ ((a ≡ p) × (decoded x ≡ Some (Status Ready)))
   own_word a x lo hi e = ⊎_elim
-      (λ d. inr (d, ap decoded (same_Some x (encoded (Status Ready)) (sym e ∙ ap (inside_at w2) d ∙ status_word)) ∙ decoded_encoded (Status Ready) tt))
+      (λ d. inr (
+        d,
+        ap decoded (same_Some x (encoded (Status Ready)) (sym e ∙ ap (inside_at w2) d ∙ status_word))
+            ∙ decoded_encoded (Status Ready) tt,
+      ))
       (λ d. inl (⊎_elim (λ q. quiet a x (p + 1) (Small (pos k)) q name_at refl e)
       (λ q1. ⊎_elim (λ q. quiet a x (p + 2) (Raw f) q procedure_at refl e)
       (λ q2. ⊎_elim (λ q. quiet a x (p + 3) (Raw (length xs)) q count_at refl e)
@@ -127,8 +135,10 @@ module _ (vs : Addresses) (sizes : List ℕ) (k f : ℕ) (xs : List ℕ) (p : �
       (cases_eq a (p + 3))) (cases_eq a (p + 2))) (cases_eq a (p + 1))))
       (cases_eq a p)
     where
-      quiet : (a x b : ℕ) (c : Cell) → a ≡ b → At (inside_at w2) b c → is_quiet c ≡ true → inside_at w2 a ≡ Some x → IsSaid (inside_at w2) vs x
-      quiet a x b c q t i e = inl (record { cell = c; says = ap decoded (same_Some x t.0 (sym e ∙ ap (inside_at w2) q ∙ t.1)) ∙ t.2; quiet = i })
+      quiet : (a x b : ℕ) (c : Cell) → a ≡ b → At (inside_at w2) b c → is_quiet c ≡ true → inside_at w2 a ≡ Some x
+          → IsSaid (inside_at w2) vs x
+      quiet a x b c q t i e =
+          inl (record { cell = c; says = ap decoded (same_Some x t.0 (sym e ∙ ap (inside_at w2) q ∙ t.1)) ∙ t.2; quiet = i })
 
   pub headed : LaysHeaded vs sizes k f xs p ws w2
   headed = record {

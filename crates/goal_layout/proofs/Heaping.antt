@@ -1,5 +1,6 @@
 -- Words that refer to nothing, that say expressions, and processes: they are a heap.
-use Rattle.std.proofs.Common.{◌≡◌, ℕ, suc, ◌+◌, ◌-◌, ◌<◌, ◌≤◌, Bool, true, false, cond, List, Option, Some, None, refl, sym, ap, ◌∙◌, subst, arith, ◌⊎◌, inl, inr, ⊎_elim}
+use Rattle.std.proofs.Common.{◌≡◌, ℕ, suc, ◌+◌, ◌-◌, ◌<◌, ◌≤◌, Bool, true, false, cond, List, Option, Some, None, refl, sym, ap, ◌∙◌}
+use Rattle.std.proofs.Common.{subst, arith, ◌⊎◌, inl, inr, ⊎_elim}
 use Rattle.std.proofs.lemmas.Option.{same_Some, cond_some}
 use Rattle.fcp_model.specs.Places.{Variable}
 use Rattle.fcp_model.specs.Expressions.{Expr}
@@ -182,7 +183,8 @@ module _ (ws : List ℕ) (vs : Addresses) (procs : List ℕ) (h : AreLaid ws vs 
       go (inl (inr s)) = absurd (no_status (view w vs x s.0 s.1))
         where
           no_status : View w vs x (expr_weight s.0) → ⊥
-          no_status (constant c q k) = let u : is_constant (Status d) ≡ true = subst (λ z. is_constant z ≡ true) (same_cell x c (Status d) q is) k in cc
+          no_status (constant c q k) = let u : is_constant (Status d) ≡ true =
+              subst (λ z. is_constant z ≡ true) (same_cell x c (Status d) q is) k in cc
           no_status (wide a u low q t) = let v : Wide a u ≡ Status d = same_cell x (Wide a u) (Status d) q is in cc
           no_status (place a v (inl q) l) = let u : Ref a ≡ Status d = same_cell x (Ref a) (Status d) q is in cc
           no_status (place a v (inr q) l) = let u : RoRef a ≡ Status d = same_cell x (RoRef a) (Status d) q is in cc
@@ -216,7 +218,8 @@ module _ (ws : List ℕ) (vs : Addresses) (procs : List ℕ) (h : AreLaid ws vs 
     where
       go : (o : Option ℕ) (p : inside_at ws a ≡ o) → o ≡ Some x → (s : Sort ws vs procs a x) × (rank_of a o p ≡ sort_rank a x s)
       go None p q = let no : ⊥ = cc in absurd no
-      go (Some y) p q = subst (λ z. (s : Sort ws vs procs a z) × (rank_of a (Some y) p ≡ sort_rank a z s)) (same_Some y x q) (h.all a y p, refl)
+      go (Some y) p q = subst (λ z. (s : Sort ws vs procs a z) × (rank_of a (Some y) p ≡ sort_rank a z s)) (same_Some y x q)
+          (h.all a y p, refl)
 
   -- a word that refers to nothing has the rank 0
   rank_zero : (a x : ℕ) (c : Cell) → inside_at ws a ≡ Some x → decoded x ≡ Some c → refers_on (Some c) ≡ false → rank a ≡ 0
@@ -300,7 +303,8 @@ module _ (ws : List ℕ) (vs : Addresses) (procs : List ℕ) (h : AreLaid ws vs 
         (λ s. subst (λ z. Reaches z b) (same_cell x c (Status Ready) d s) r);
     falls_by = λ a b x t y n c e d tells at raw by. rank_above a b x c (final_inside a x e).0 d
         (λ k says.
-        let v = view_tells x (expr_weight k) c d (view w vs x k says) t y n b tells (final_inside t y at).0 raw (reaches_by_refers n c b by) in
+        let v = view_tells x (expr_weight k) c d (view w vs x k says) t y n b tells (final_inside t y at).0 raw
+        (reaches_by_refers n c b by) in
         (child_rank b (expr_weight k) v.1, ap (λ z. refers_on (Some z)) v.0))
         (λ q. let z : None ≡ Some t = sym (quiet_tells q.cell q.quiet) ∙ ap teller (same_cell x q.cell c q.says d) ∙ tells in cc)
         (λ s. let z : None ≡ Some t = ap teller (same_cell x (Status Ready) c s d) ∙ tells in cc);

@@ -1,5 +1,6 @@
 -- Pieces laid one after another, and words of them written.
-use Rattle.std.proofs.Common.{◌≡◌, ℕ, ◌+◌, ◌-◌, ◌*◌, ◌/◌, ◌%◌, ◌<◌, ◌≤◌, true, false, List, [], ◌∷◌, ◌++◌, length, set, slice_get, Option, Some, None, refl, sym, ap, ◌∙◌, subst, arith, ◌⊎◌, inl, inr, ⊎_elim}
+use Rattle.std.proofs.Common.{◌≡◌, ℕ, ◌+◌, ◌-◌, ◌*◌, ◌/◌, ◌%◌, ◌<◌, ◌≤◌, true, false, List, [], ◌∷◌, ◌++◌, length, set, slice_get, Option}
+use Rattle.std.proofs.Common.{Some, None, refl, sym, ap, ◌∙◌, subst, arith, ◌⊎◌, inl, inr, ⊎_elim}
 use Rattle.std.specs.Option.{option_and_then}
 use Rattle.std.proofs.lemmas.Bool.{cases_eq, cases_lt, false≢true}
 use Rattle.std.proofs.lemmas.List.{length-set}
@@ -25,7 +26,8 @@ first_fit-append rs [] ys = refl
 first_fit-append rs (x ∷ xs) ys = go (fit x rs) (λ ss. first_fit-append ss xs ys)
   where
     go : (o : Option (List ℕ)) → ((ss : List ℕ) → first_fit ss (xs ++ ys) ≡ option_and_then (λ qs. first_fit qs ys) (first_fit ss xs))
-        → option_and_then (λ ss. first_fit ss (xs ++ ys)) o ≡ option_and_then (λ ss. first_fit ss ys) (option_and_then (λ ss. first_fit ss xs) o)
+        → option_and_then (λ ss. first_fit ss (xs ++ ys)) o
+        ≡ option_and_then (λ ss. first_fit ss ys) (option_and_then (λ ss. first_fit ss xs) o)
     go None f = refl
     go (Some ss) f = f ss
 
@@ -128,7 +130,8 @@ lays_then vs xs ys ws ws' ws'' l m = record {
   fits = first_fit-append (rooms ws) xs ys ∙ ap (option_and_then (λ ss. first_fit ss ys)) l.fits ∙ m.fits;
   kept = λ a i off. let j = l.kept a i off in let k = m.kept a j.0 off in (k.0, k.1 ∙ j.1);
   said = λ a x e. ⊎_elim
-      (λ i. ⊎_elim (λ j. inl j) (λ j. inr (said_on (inside_at ws') (inside_at ws'') vs x (lays_grows vs ys ws' ws'' l.pages m) j)) (l.said a x i))
+      (λ i. ⊎_elim (λ j. inl j) (λ j. inr (said_on (inside_at ws') (inside_at ws'') vs x (lays_grows vs ys ws' ws'' l.pages m) j))
+      (l.said a x i))
       (λ i. inr i)
       (m.said a x e);
 }
@@ -167,7 +170,8 @@ module _ (ws : List ℕ) (c y : ℕ) (pages : ArePages ws) (blank : IsBlank ws c
     whole = ap (λ k. k % 1024) same_length ∙ pages.whole;
     small = let s = pages.small in omega (arith, same_length, s);
     above = λ p h. subst (λ k. 1024 * p < k) (sym (same_tops (1024 * p) (omega arith))) (pages.above p (omega (arith, h, same_length)));
-    within = λ p h. subst (λ k. k ≤ 1024 * p + 1024) (sym (same_tops (1024 * p) (omega arith))) (pages.within p (omega (arith, h, same_length)));
+    within = λ p h. subst (λ k. k ≤ 1024 * p + 1024) (sym (same_tops (1024 * p) (omega arith)))
+        (pages.within p (omega (arith, h, same_length)));
     clear = λ a h f. let g : is_inside ws a ≡ false = sym (written_inside a) ∙ f in
         slice_get-set_other ws c a y (λ e. false≢true (sym g ∙ ap (is_inside ws) e ∙ inside_known ws c 0 blank.word))
         ∙ pages.clear a (omega (arith, h, same_length)) g;

@@ -1,5 +1,6 @@
 -- Words of numbers, and of variables.
-use Rattle.std.proofs.Common.{◌≡◌, ℕ, zero, suc, ◌+◌, ◌*◌, ◌<◌, ◌≤◌, ℤ, pos, negsuc, true, false, cond, List, [], ◌∷◌, set, map, Option, Some, None, refl, sym, ap, ◌∙◌, subst, arith, inl, inr, ⊎_elim, FitsSigned, w64}
+use Rattle.std.proofs.Common.{◌≡◌, ℕ, zero, suc, ◌+◌, ◌*◌, ◌<◌, ◌≤◌, ℤ, pos, negsuc, true, false, cond, List, [], ◌∷◌, set, map, Option}
+use Rattle.std.proofs.Common.{Some, None, refl, sym, ap, ◌∙◌, subst, arith, inl, inr, ⊎_elim, FitsSigned, w64}
 use Rattle.std.specs.Prelude.{nat_le, IfSome}
 use Rattle.std.proofs.lemmas.Int.{ints}
 use Rattle.std.proofs.lemmas.Bool.{cases_eq, cases_lt, false≢true, le-leb, and_from}
@@ -62,7 +63,8 @@ pub number_laid : (t : source.Term) (z : ℤ) (o : Option ℕ) (ws ws' : List �
 number_laid t z o ws ws' e laid vars over =
     subst (λ u. IfSome o (λ x. LaysTerm vars u x ws ws')) (sym (ap term_of e ∙ fold-Int (Term ℕ) term_step z)) (go o laid)
   where
-    go : (o : Option ℕ) → ((vs : Addresses) → IfSome o (λ x. Lays vs (term_sizes (number z)) ws ws' × Denotes (inside_at ws') vs x (number z)))
+    go : (o : Option ℕ) →
+        ((vs : Addresses) → IfSome o (λ x. Lays vs (term_sizes (number z)) ws ws' × Denotes (inside_at ws') vs x (number z)))
         → IfSome o (λ x. LaysTerm vars (number z) x ws ws')
     go None f = tt
     go (Some x) f = let r = f (places_of vars) in record { lays = r.0; word = r.1 }

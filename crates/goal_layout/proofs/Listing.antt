@@ -147,10 +147,12 @@ module _ (whole : source.Term) where
             let m = laid n (split' n k.0).0 in
             chain_step (places_of n) (term_sizes (term_of whole)) base ws w1 w2 list hole c y z hole' (term_of item') (term_of next')
             (term_of whole)
-            (subst (λ u. Chain (places_of n) (term_sizes (term_of whole)) base ws list hole u (term_of whole)) parts k.1) takes m.lays m.word
+            (subst (λ u. Chain (places_of n) (term_sizes (term_of whole)) base ws list hole u (term_of whole)) parts k.1) takes m.lays
+            m.word
             is (omega (arith, e))
 
-        first : Chain (places_of vars) (term_sizes (term_of whole)) base (set (set w2 c y) hole z) list hole' (term_of next') (term_of whole)
+        first : Chain (places_of vars) (term_sizes (term_of whole)) base (set (set w2 c y) hole z) list hole' (term_of next')
+            (term_of whole)
         first = steps vars over
 
   pub listing_ends : (rest : source.Term) (base ws w1 : List ℕ) (list hole z : ℕ) → IsListing whole base ws list hole rest
@@ -158,7 +160,8 @@ module _ (whole : source.Term) where
   listing_ends rest base ws w1 list hole z l laid n o =
       let k = l.chain n o in
       let m = laid n k.0 in
-      let r = chain_ends (places_of n) (term_sizes (term_of whole)) base ws w1 list hole z (term_of rest) (term_of whole) k.1 m.lays m.word in
+      let r = chain_ends (places_of n) (term_sizes (term_of whole)) base ws w1 list hole z (term_of rest)
+      (term_of whole) k.1 m.lays m.word in
       record { lays = r.0; word = r.1 }
 
 pub none_if : (o : Option ℕ) (P : Type 0) → P → IfNone o P

@@ -20,13 +20,15 @@ use Rattle.goal_layout.specs.Pages.{rooms, ArePages, Takes}
 use Rattle.goal_layout.specs.Laying.{IsBlank, IsNarrowExpr, Lays, LaysExpr, places_of, settled_expr}
 use Rattle.word_states.proofs.Persisting.{at_on, expr_on, expr_final}
 use Rattle.goal_layout.proofs.Leaves.{taken_blank}
-use Rattle.goal_layout.proofs.Lays.{first_fit-append, take_lays, lays_then, lays_grows, blank_on, written_word, written_other, written_pages, written_grows, lays_written}
+use Rattle.goal_layout.proofs.Lays.{first_fit-append, take_lays, lays_then, lays_grows, blank_on, written_word, written_other}
+use Rattle.goal_layout.proofs.Lays.{written_pages, written_grows, lays_written}
 
 -- an expression was laid, for each number of variables
 abbrev pub LaysExprAlways : Expr ℕ → ℕ → List ℕ → List ℕ → Type 0
 LaysExprAlways e x ws ws' = (vars : ℕ) → ExprOver (IsNumbered vars) e → LaysExpr vars e x ws ws'
 
-module _ (o : ArithOp) (l r : Expr ℕ) (ws w1 : List ℕ) (at x : ℕ) (takes : Takes ws w1 3 at) (is : decoded x ≡ Some (Raw (66 + operator_code o))) where
+module _ (o : ArithOp) (l r : Expr ℕ) (ws w1 : List ℕ) (at x : ℕ) (takes : Takes ws w1 3 at)
+    (is : decoded x ≡ Some (Raw (66 + operator_code o))) where
   abbrev w2 : List ℕ
   w2 = set w1 at x
 
@@ -38,7 +40,8 @@ module _ (o : ArithOp) (l r : Expr ℕ) (ws w1 : List ℕ) (at x : ℕ) (takes :
   begun_pages = written_pages w1 at x takes.pages b0
 
   begun_lays : (vs : Addresses) → Lays vs (3 ∷ []) ws w2
-  begun_lays vs = lays_written w1 at x takes.pages b0 vs (3 ∷ []) ws (take_lays vs ws w1 3 at takes) (takes.free at (omega arith) (omega arith))
+  begun_lays vs = lays_written w1 at x takes.pages b0 vs (3 ∷ []) ws (take_lays vs ws w1 3 at takes)
+      (takes.free at (omega arith) (omega arith))
       (inl (record { cell = Raw (66 + operator_code o); says = is; quiet = refl }))
 
   begun_blank : (k : ℕ) → at < k → k < at + 3 → IsBlank w2 k
@@ -79,7 +82,8 @@ module _ (o : ArithOp) (l r : Expr ℕ) (ws w1 : List ℕ) (at x : ℕ) (takes :
           let b = blank_on vs (expr_sizes l) w2 w3 (at + 2) ll.lays (begun_blank (at + 2) (omega arith) (omega arith)) in
           record { word = written_other w3 (at + 1) y ll.lays.pages b1 (at + 2) (λ e. omega (arith, e)) ∙ b.word; off = b.off }
 
-      module _ (w5 : List ℕ) (z v : ℕ) (or : ExprOver (IsNumbered vars) r) (right : LaysExprAlways r z w4 w5) (whole : decoded v ≡ Some (Tuple at)) where
+      module _ (w5 : List ℕ) (z v : ℕ) (or : ExprOver (IsNumbered vars) r) (right : LaysExprAlways r z w4 w5)
+          (whole : decoded v ≡ Some (Tuple at)) where
         abbrev rr : LaysExpr vars r z w4 w5
         rr = right vars or
 
@@ -156,11 +160,13 @@ module _ (e l r l' r' : source_expr.Expr) (o : ArithOp) (ee : e ≡ Op o l r) (e
   shape : expr_of e ≡ op o (expr_of l') (expr_of r')
   shape = op_of e l r l' r' o ee el er
 
-  over : (vars : ℕ) → ExprOver (IsNumbered vars) (expr_of e) → ExprOver (IsNumbered vars) (expr_of l') × ExprOver (IsNumbered vars) (expr_of r')
+  over : (vars : ℕ) → ExprOver (IsNumbered vars) (expr_of e)
+      → ExprOver (IsNumbered vars) (expr_of l') × ExprOver (IsNumbered vars) (expr_of r')
   over vars h = subst (ExprOver (IsNumbered vars)) shape h
 
   pub left_next : (vars : ℕ) × ExprOver (IsNumbered vars) (expr_of e)
-      → ArePages (set w1 at x) × IsNarrowExpr (expr_of l') × ((vars : ℕ) × ExprOver (IsNumbered vars) (expr_of l')) × (size-Expr l' < size-Expr e)
+      → ArePages (set w1 at x) × IsNarrowExpr (expr_of l') × ((vars : ℕ) × ExprOver (IsNumbered vars) (expr_of l'))
+      × (size-Expr l' < size-Expr e)
   left_next (vars, h) = (
     begun_pages o (expr_of l') (expr_of r') ws w1 at x takes is,
     (subst IsNarrowExpr shape narrow).0,
@@ -168,7 +174,8 @@ module _ (e l r l' r' : source_expr.Expr) (o : ArithOp) (ee : e ≡ Op o l r) (e
     omega (arith, size-left o l r, ap size-Expr ee, ap size-Expr el),
   )
 
-  pub right_next : (w3 : List ℕ) (y : ℕ) → LaysExprAlways (expr_of l') y (set w1 at x) w3 → (vars : ℕ) × ExprOver (IsNumbered vars) (expr_of e)
+  pub right_next : (w3 : List ℕ) (y : ℕ) → LaysExprAlways (expr_of l') y (set w1 at x) w3
+      → (vars : ℕ) × ExprOver (IsNumbered vars) (expr_of e)
       → ArePages (set w3 (at + 1) y) × IsNarrowExpr (expr_of r') × ((vars : ℕ) × ExprOver (IsNumbered vars) (expr_of r'))
       × (size-Expr r' < size-Expr e)
   right_next w3 y left (vars, h) = (
@@ -178,7 +185,8 @@ module _ (e l r l' r' : source_expr.Expr) (o : ArithOp) (ee : e ≡ Op o l r) (e
     omega (arith, size-right o l r, ap size-Expr ee, ap size-Expr er),
   )
 
-  pub left_finds_none : first_fit (rooms (set w1 at x)) (expr_sizes (expr_of l')) ≡ None → first_fit (rooms ws) (expr_sizes (expr_of e)) ≡ None
+  pub left_finds_none : first_fit (rooms (set w1 at x)) (expr_sizes (expr_of l')) ≡ None
+      → first_fit (rooms ws) (expr_sizes (expr_of e)) ≡ None
   left_finds_none none =
       ap (λ k. first_fit (rooms ws) (expr_sizes k)) shape ∙ left_misses o (expr_of l') (expr_of r') ws w1 at x takes is none
 

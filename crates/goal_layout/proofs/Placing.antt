@@ -1,5 +1,6 @@
 -- The places are laid in the first page of a new heap.
-use Rattle.std.proofs.Common.{◌≡◌, ℕ, zero, suc, ◌+◌, ◌-◌, ◌*◌, ◌/◌, ◌%◌, ◌<◌, ◌≤◌, pos, true, false, cond, List, ◌∷◌, length, set, slice_get, Some, refl, sym, ap, ◌∙◌, subst, arith, ◌⊎◌, inl, inr, ⊎_elim}
+use Rattle.std.proofs.Common.{◌≡◌, ℕ, zero, suc, ◌+◌, ◌-◌, ◌*◌, ◌/◌, ◌%◌, ◌<◌, ◌≤◌, pos, true, false, cond, List, ◌∷◌, length, set}
+use Rattle.std.proofs.Common.{slice_get, Some, refl, sym, ap, ◌∙◌, subst, arith, ◌⊎◌, inl, inr, ⊎_elim}
 use Rattle.std.specs.Prelude.{option_map, replicate}
 use Rattle.std.specs.Option.{option_and_then}
 use Rattle.std.proofs.lemmas.Int.{ints}
@@ -126,7 +127,8 @@ module _ (ws w1 : List ℕ) (vars : ℕ) (n : AreNew ws) (few : vars ≤ 250) (t
   name_at k lo hi = (
     encoded (Small (pos k)),
     inside_is new (2 * k - 1) (encoded (Small (pos k))) (below (2 * k - 1) (omega (arith, lo)) (omega (arith, lo, hi)))
-        (slice_get-set_other w1 0 (2 * k - 1) (encoded (Top (2 * vars + 1))) (λ e. omega (arith, e, lo)) ∙ i.names k lo (omega (arith, hi))),
+        (slice_get-set_other w1 0 (2 * k - 1) (encoded (Top (2 * vars + 1))) (λ e. omega (arith, e, lo))
+        ∙ i.names k lo (omega (arith, hi))),
     decoded_encoded (Small (pos k)) (omega (arith, ints), omega (arith, ints, hi, few)),
   )
 
@@ -167,7 +169,8 @@ module _ (ws w1 : List ℕ) (vars : ℕ) (n : AreNew ws) (few : vars ≤ 250) (t
   inner_quiet a y e off hi = ⊎_elim
       (λ m.
       let k : 2 * (a / 2) ≡ a = omega (arith, m) in
-      let w : inside_at new a ≡ Some 0 = subst (λ q. inside_at new q ≡ Some 0) k (word_at' (a / 2) (omega (arith, k, off')) (omega (arith, k, hi))) in
+      let w : inside_at new a ≡ Some 0 =
+      subst (λ q. inside_at new q ≡ Some 0) k (word_at' (a / 2) (omega (arith, k, off')) (omega (arith, k, hi))) in
       subst IsQuiet (same_Some 0 y (sym w ∙ e)) zero_quiet)
       (λ m.
       let k : 2 * (a / 2 + 1) - 1 ≡ a = omega (arith, m) in

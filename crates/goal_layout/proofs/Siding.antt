@@ -56,7 +56,8 @@ module _ (t u : Term ℕ) (ws w1 w2 : List ℕ) (x y : ℕ) (first : LaysAlways 
 
       left : Denotes (inside_at w2) vs x (settled_term t)
       left = denotes_on (inside_at w1) (inside_at w2) vs vs
-          (lays_grows vs (term_sizes u) w1 w2 (first vars ot).lays.pages (second vars ou).lays) (λ v a m. m) x (settled_term t) (first vars ot).word
+          (lays_grows vs (term_sizes u) w1 w2 (first vars ot).lays.pages (second vars ou).lays) (λ v a m. m) x (settled_term t)
+          (first vars ot).word
 
       done : LaysHeaded vs (term_sizes t ++ term_sizes u) k f (x ∷ y ∷ []) p ws w3
       done = headed vs (term_sizes t ++ term_sizes u) k f (x ∷ y ∷ []) p ws w2 w3 lays h
@@ -91,7 +92,8 @@ module _ (t : Term ℕ) (e : Expr ℕ) (ws w1 w2 : List ℕ) (x y : ℕ) (first 
 
       left : Denotes (inside_at w2) vs x (settled_term t)
       left = denotes_on (inside_at w1) (inside_at w2) vs vs
-          (lays_grows vs (expr_sizes e) w1 w2 (first vars ot).lays.pages (second vars oe).lays) (λ v a m. m) x (settled_term t) (first vars ot).word
+          (lays_grows vs (expr_sizes e) w1 w2 (first vars ot).lays.pages (second vars oe).lays) (λ v a m. m) x (settled_term t)
+          (first vars ot).word
 
       done : LaysHeaded vs (term_sizes t ++ expr_sizes e) k f (x ∷ y ∷ []) p ws w3
       done = headed vs (term_sizes t ++ expr_sizes e) k f (x ∷ y ∷ []) p ws w2 w3 lays h

@@ -1,5 +1,6 @@
 -- Words are taken in a page.
-use Rattle.std.proofs.Common.{◌≡◌, ℕ, ◌+◌, ◌-◌, ◌*◌, ◌/◌, ◌%◌, ◌<◌, ◌≤◌, true, false, List, length, set, slice_get, get_or, Some, None, sym, ap, ◌∙◌, subst, arith, ◌⊎◌, inl, inr, ⊎_elim}
+use Rattle.std.proofs.Common.{◌≡◌, ℕ, ◌+◌, ◌-◌, ◌*◌, ◌/◌, ◌%◌, ◌<◌, ◌≤◌, true, false, List, length, set, slice_get, get_or, Some, None}
+use Rattle.std.proofs.Common.{sym, ap, ◌∙◌, subst, arith, ◌⊎◌, inl, inr, ⊎_elim}
 use Rattle.std.specs.Option.{option_and_then}
 use Rattle.std.proofs.lemmas.Bool.{cases_eq, cases_lt, false≢true}
 use Rattle.std.proofs.lemmas.List.{length-set}
@@ -77,7 +78,8 @@ module _ (ws : List ℕ) (p n : ℕ) (pages : ArePages ws) (some : 0 < n) (there
       here e = ⊎_elim
           (λ m. first_inside new b (omega (arith, in_reach b e, same_length)) m ∙ sym (first_inside ws b (in_reach b e) m))
           (λ m. ⊎_elim
-          (λ l. below_top new b (omega (arith, in_reach b e, same_length)) (subst (λ k. b < k) (sym (ap (top_at new) e ∙ rises)) (omega (arith, l)))
+          (λ l. below_top new b (omega (arith, in_reach b e, same_length))
+          (subst (λ k. b < k) (sym (ap (top_at new) e ∙ rises)) (omega (arith, l)))
           ∙ sym (below_top ws b (in_reach b e) (subst (λ k. b < k) (sym (ap (top_at ws) e)) l)))
           (λ l. above_top new b m (subst (λ k. k ≤ b) (sym (ap (top_at new) e ∙ rises)) l)
           ∙ sym (above_top ws b m (subst (λ k. k ≤ b) (sym (ap (top_at ws) e)) (omega (arith, l)))))
@@ -155,7 +157,8 @@ took ws ws' p n top x same pages some there read has word small =
     let e : top ≡ top_at ws (1024 * p) = top_read ws (1024 * p) top there read in
     let t = takes ws p n (subst ArePages (sym same) pages) some there (subst (λ t. n ≤ 1024 * p + 1024 - t) e has) small in
     subst (λ us. Takes us (set ws (1024 * p) x) n top) same
-    (subst (λ y. Takes ws (set ws (1024 * p) y) n top) (sym word) (subst (λ t. Takes ws (set ws (1024 * p) (encoded (Top (t + n)))) n t) (sym e) t))
+    (subst (λ y. Takes ws (set ws (1024 * p) y) n top) (sym word)
+    (subst (λ t. Takes ws (set ws (1024 * p) (encoded (Top (t + n)))) n t) (sym e) t))
 
 -- one page more has no room
 pub too_small : (ws : List ℕ) (p n top : ℕ) → 1024 * p < length ws → top ≡ top_said (decoded (get_or ws (1024 * p) 0))

@@ -1,5 +1,6 @@
 -- The loop over a tuple's parts.
-use Rattle.std.proofs.Common.{◌≡◌, ℕ, suc, ◌+◌, ◌<◌, ◌≤◌, false, List, [], ◌∷◌, ◌++◌, length, map, set, take, drop, get_or, Some, None, refl, sym, ap, ◌∙◌, subst, arith, inl, inr, append_assoc, append-nil, drop_of_length-le}
+use Rattle.std.proofs.Common.{◌≡◌, ℕ, suc, ◌+◌, ◌<◌, ◌≤◌, false, List, [], ◌∷◌, ◌++◌, length, map, set, take, drop, get_or, Some, None}
+use Rattle.std.proofs.Common.{refl, sym, ap, ◌∙◌, subst, arith, inl, inr, append_assoc, append-nil, drop_of_length-le}
 use Rattle.std.specs.Option.{option_and_then}
 use Rattle.std.proofs.Math.Seq.{drop-cons}
 use Rattle.std.proofs.lemmas.List.{length-map, take_more, map-append, take_all, length-take-le}
@@ -21,7 +22,8 @@ use Rattle.goal_layout.specs.Pages.{rooms, ArePages, Takes}
 use Rattle.goal_layout.specs.Laying.{IsBlank, IsNarrow, AreNarrow, Lays, places_of, parts_of, settled_term}
 use Rattle.word_states.proofs.Persisting.{at_on, arguments_on, denotes_on}
 use Rattle.goal_layout.proofs.Leaves.{taken_blank}
-use Rattle.goal_layout.proofs.Lays.{first_fit-append, take_lays, lays_then, lays_grows, blank_on, written_word, written_other, written_grows, lays_written}
+use Rattle.goal_layout.proofs.Lays.{first_fit-append, take_lays, lays_then, lays_grows, blank_on, written_word, written_other}
+use Rattle.goal_layout.proofs.Lays.{written_grows, lays_written}
 use Rattle.goal_layout.proofs.Listing.{LaysAlways}
 use Rattle.goal_layout.proofs.Arguments.{arguments_more, parts_said, renames_terms, count_of}
 
@@ -65,7 +67,8 @@ pub parts_begin : (vs : Addresses) (ts : List source.Term) (base w1 : List ℕ) 
 parts_begin vs ts base w1 at count x ec t is = record {
   sizes = suc (length ts) ∷ [];
   lays = subst (λ k. Lays vs (k ∷ []) base (set w1 at x)) (omega (arith, ec))
-      (lays_written w1 at x t.pages b vs ((count + 1) ∷ []) base (take_lays vs base w1 (count + 1) at t) (t.free at (omega arith) (omega arith))
+      (lays_written w1 at x t.pages b vs ((count + 1) ∷ []) base (take_lays vs base w1 (count + 1) at t)
+      (t.free at (omega arith) (omega arith))
       (inl (record { cell = Raw count; says = is; quiet = refl })));
   left = ap (λ k. suc k ∷ part_sizes (parts_of ts)) (sym (count_of (map term_of ts) ∙ length-map ts term_of));
   free = λ c l h. t.free c l (omega (arith, ec));
@@ -86,7 +89,8 @@ pub parts_step : (vs : Addresses) (ts : List source.Term) (n : ℕ) (base ws w1 
 parts_step vs ts n base ws w1 at c y t lt is ec l d p = record {
   sizes = p.sizes ++ term_sizes (term_of t);
   lays = lays_written w1 c y l.pages b vs (p.sizes ++ term_sizes (term_of t)) base
-      (lays_then vs p.sizes (term_sizes (term_of t)) base ws w1 p.lays l) (p.free c (omega (arith, ec)) (omega (arith, ec))) (inr (leaf (settled_term (term_of t)), d));
+      (lays_then vs p.sizes (term_sizes (term_of t)) base ws w1 p.lays l) (p.free c (omega (arith, ec)) (omega (arith, ec)))
+      (inr (leaf (settled_term (term_of t)), d));
   left = append_assoc p.sizes (term_sizes (term_of t)) (part_sizes (parts_of (drop (n + 1) ts)))
       ∙ ap (λ us. p.sizes ++ part_sizes (parts_of us)) (sym cut)
       ∙ p.left;
@@ -99,7 +103,8 @@ parts_step vs ts n base ws w1 at c y t lt is ec l d p = record {
       (arguments_more (inside_at (set w1 c y)) vs (suc at) (settled_all (take n ts)) y (settled_term (term_of t))
       (arguments_on (inside_at ws) (inside_at (set w1 c y)) vs vs grows (λ v a m. m) (suc at) (settled_all (take n ts)) p.done)
       (subst (λ k. inside_at (set w1 c y) k ≡ Some y) (omega (arith, ec, size)) (written_word w1 c y l.pages b))
-      (denotes_on (inside_at w1) (inside_at (set w1 c y)) vs vs (written_grows w1 c y l.pages b) (λ v a m. m) y (settled_term (term_of t)) d));
+      (denotes_on (inside_at w1) (inside_at (set w1 c y)) vs vs (written_grows w1 c y l.pages b) (λ v a m. m) y
+      (settled_term (term_of t)) d));
 }
   where
     b : IsBlank w1 c
@@ -149,7 +154,8 @@ pub few_parts : (ts : List source.Term) → IsNarrow (tuple (parts_of ts)) → l
 few_parts ts h = subst (λ k. k ≤ 65) (count_of (map term_of ts) ∙ length-map ts term_of) h.0
 
 pub tupling_begins : (ts : List source.Term) (base w1 : List ℕ) (at count x : ℕ) → IsNarrow (tuple (parts_of ts))
-    → (vars : ℕ) × PartsOver (IsNumbered vars) (parts_of ts) → count ≡ length ts → Takes base w1 (count + 1) at → decoded x ≡ Some (Raw count)
+    → (vars : ℕ) × PartsOver (IsNumbered vars) (parts_of ts) → count ≡ length ts → Takes base w1 (count + 1) at
+    → decoded x ≡ Some (Raw count)
     → IsTupling ts 0 base (set w1 at x) at
 tupling_begins ts base w1 at count x narrow (vars, over) ec t is = record {
   pages = (begins vars).lays.pages;
@@ -168,7 +174,8 @@ pub tupling_step : (ts : List source.Term) (n : ℕ) (base ws w1 : List ℕ) (at
     → LaysAlways (term_of t) y ws w1 → IsTupling ts n base ws at → IsTupling ts (n + 1) base (set w1 c y) at
 tupling_step ts n base ws w1 at c y t (vars, over) lt is ec laid l = record {
   pages = (steps vars over).lays.pages;
-  inside = let i = l.inside in let size = (steps vars over).lays.size in let was = (l.parts vars over).1.lays.size in omega (arith, i, size, was);
+  inside = let i = l.inside in let size = (steps vars over).lays.size in let was = (l.parts vars over).1.lays.size in
+      omega (arith, i, size, was);
   fits = parts_fit (places_of vars) ts (n + 1) base (set w1 c y) at (steps vars over);
   narrow = (subst (λ us. AreNarrow (parts_of us)) cut l.narrow).1;
   numbered = (vars, (split vars over).1);
@@ -178,7 +185,8 @@ tupling_step ts n base ws w1 at c y t (vars, over) lt is ec laid l = record {
     cut : drop n ts ≡ t ∷ drop (n + 1) ts
     cut = let next : n + 1 ≡ suc n = omega arith in drop-cons ts n t lt ∙ (λ k. sym is k ∷ drop (sym next k) ts)
 
-    split : (k : ℕ) → PartsOver (IsNumbered k) (parts_of ts) → Over (IsNumbered k) (term_of t) × PartsOver (IsNumbered k) (parts_of (drop (n + 1) ts))
+    split : (k : ℕ) → PartsOver (IsNumbered k) (parts_of ts)
+        → Over (IsNumbered k) (term_of t) × PartsOver (IsNumbered k) (parts_of (drop (n + 1) ts))
     split k o = subst (λ us. PartsOver (IsNumbered k) (parts_of us)) cut (l.parts k o).0
 
     steps : (k : ℕ) → PartsOver (IsNumbered k) (parts_of ts) → Parts (places_of k) ts (n + 1) base (set w1 c y) at

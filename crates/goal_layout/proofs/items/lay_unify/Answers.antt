@@ -21,8 +21,10 @@ returns-in_err-second-clause-none c =
 
 pub returns-clause-none : goal.returns-clause-none
 returns-clause-none c =
-    none_then c.lay_process.result _ _ (unify_misses (term_of c.args.left.now) (term_of c.args.right.now) c.args.words.now c.lay_term.new.words
-    c.lay_term-2.new.words c.in_ok-first.first c.in_ok-second.second c.in_ok-first.ensures.laid c.in_ok-second.ensures.laid c.requires.numbered.0
+    none_then c.lay_process.result _ _
+    (unify_misses (term_of c.args.left.now) (term_of c.args.right.now) c.args.words.now c.lay_term.new.words
+    c.lay_term-2.new.words c.in_ok-first.first c.in_ok-second.second c.in_ok-first.ensures.laid c.in_ok-second.ensures.laid
+    c.requires.numbered.0
     c.requires.numbered.1 c.requires.numbered.2) c.lay_process.ensures.none
 
 pub returns-clause-laid : goal.returns-clause-laid

@@ -5,7 +5,8 @@ use Rattle.goal_layout.specs.FirstFit.{first_fit}
 use Rattle.goal_layout.specs.Pages.{rooms}
 use Rattle.goal_layout.specs.Goals.{LaysPlaces}
 use Rattle.goal_layout.proofs.Listing.{none_if}
-use Rattle.goal_layout.proofs.AllItems.{its_layable, its_number, item_is, places_miss, first_misses, items_begin, items_step, items_miss, items_end}
+use Rattle.goal_layout.proofs.AllItems.{its_layable, its_number, item_is, places_miss, first_misses, items_begin, items_step, items_miss}
+use Rattle.goal_layout.proofs.AllItems.{items_end}
 use Rattle.goal_layout.proofs.layout.lay_all.Goals as goal
 
 pub returns-in_err-lay_places-clause-none : goal.returns-in_err-lay_places-clause-none
@@ -41,7 +42,8 @@ loop-at-init c =
 pub lay_item-requires-in-loop-at-clause-layable : goal.lay_item-requires-in-loop-at-clause-layable
 lay_item-requires-in-loop-at-clause-layable c =
     let xs : c.as_slice-items.result.now ≡ c.args.goal.now.0.items = c.as_slice-items.ensures ∙ ap (λ t. t.items) c.goal-text.ensures in
-    let there : c.loop-at.at < length c.args.goal.now.0.items = subst (λ (ys : List Item). c.loop-at.at < length ys) xs c.loop-at-test.true in (
+    let there : c.loop-at.at < length c.args.goal.now.0.items =
+    subst (λ (ys : List Item). c.loop-at.at < length ys) xs c.loop-at-test.true in (
       c.requires.loads.0,
       its_layable c.requires.loads.0 c.args.goal.now c.requires.loads.1 c.loop-at.at
           (get_or c.as_slice-items.result.now c.loop-at.at c.index-items-at.result) c.procedure-in-loop-at.result there
@@ -52,7 +54,8 @@ lay_item-requires-in-loop-at-clause-layable c =
 pub returns-in_err-lay_item-clause-none : goal.returns-in_err-lay_item-clause-none
 returns-in_err-lay_item-clause-none c m l =
     let xs : c.as_slice-items.result.now ≡ c.args.goal.now.0.items = c.as_slice-items.ensures ∙ ap (λ t. t.items) c.goal-text.ensures in
-    let there : c.loop-at.at < length c.args.goal.now.0.items = subst (λ (ys : List Item). c.loop-at.at < length ys) xs c.loop-at-test.true in
+    let there : c.loop-at.at < length c.args.goal.now.0.items =
+    subst (λ (ys : List Item). c.loop-at.at < length ys) xs c.loop-at-test.true in
     let is = item_is c.args.goal.now c.as_slice-items.result.now c.loop-at.at c.index-items-at.result xs c.loop-at-test.true in
     none_if _ _ (items_miss c.args.goal.now c.loop-at.at c.args.words.now c.loop-at.words
     (get_or c.as_slice-items.result.now c.loop-at.at c.index-items-at.result) c.procedure-in-loop-at.result c.in_ok-first.first m l there is
@@ -64,7 +67,8 @@ returns-in_err-lay_item-clause-none c m l =
 pub loop-at-preserved : goal.loop-at-preserved
 loop-at-preserved c =
     let xs : c.as_slice-items.result.now ≡ c.args.goal.now.0.items = c.as_slice-items.ensures ∙ ap (λ t. t.items) c.goal-text.ensures in
-    let there : c.loop-at.at < length c.args.goal.now.0.items = subst (λ (ys : List Item). c.loop-at.at < length ys) xs c.loop-at-test.true in
+    let there : c.loop-at.at < length c.args.goal.now.0.items =
+    subst (λ (ys : List Item). c.loop-at.at < length ys) xs c.loop-at-test.true in
     items_step c.args.goal.now c.loop-at.at c.args.words.now c.loop-at.words c.lay_item-in-loop-at.new.words
     (get_or c.as_slice-items.result.now c.loop-at.at c.index-items-at.result) c.procedure-in-loop-at.result c.in_ok-lay_item.field-0
     c.in_ok-first.first (c.loop-at.at + 1) c.requires.loads there

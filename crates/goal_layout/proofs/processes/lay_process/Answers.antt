@@ -9,7 +9,8 @@ pub loop-place-init : goal.loop-place-init
 loop-place-init c =
     let small : to_z w64 c.args.number ≡ pos c.args.number = omega (arith, ints) in
     fills_four c.args.words.now c.take.new.words (length c.args.args.now) c.in_ok-at.at _ _ _ _ c.encode.result c.encode-2.result
-    c.encode-3.result c.encode-4.result c.in_ok-at.ensures.taken c.encode.ensures.value (c.encode-2.ensures.value ∙ ap (λ z. encoded (Small z)) small) c.encode-3.ensures.value
+    c.encode-3.result c.encode-4.result c.in_ok-at.ensures.taken c.encode.ensures.value
+    (c.encode-2.ensures.value ∙ ap (λ z. encoded (Small z)) small) c.encode-3.ensures.value
     c.encode-4.ensures.value
 
 pub loop-place-preserved : goal.loop-place-preserved
