@@ -23,7 +23,7 @@ use Rattle.goal_layout.specs.FirstFit.{first_fit}
 use Rattle.goal_layout.specs.PieceSizes.{goal_sizes}
 use Rattle.goal_layout.specs.Pages.{room, rooms_from, rooms, ArePages}
 use Rattle.goal_layout.specs.Items.{IsNarrowGoal, IsNumberIn, IsLayable, LaysItem, called}
-use Rattle.goal_layout.specs.Goals.{AreNew, AreNarrowGoals, IsLaidIn, LaysPlaces, LaysGoal, goal_pieces}
+use Rattle.goal_layout.specs.Goals.{AreNew, AreNarrowGoals, MayBeLaid, LaysPlaces, LaysGoal, goal_pieces}
 use Rattle.goal_layout.proofs.Lays.{first_fit-append}
 use Rattle.goal_layout.proofs.Placing.{new_page}
 use Rattle.goal_layout.proofs.FirstStates.{Standing, places_stand, goal_misses, standing_more}
@@ -46,7 +46,7 @@ LaysItemAlways call f k p ws ws' = (m : Module) → IsNumberIn m call f → (var
     → LaysItem vars (called m call) k p ws ws'
 
 -- an item of the goal
-module _ (m : Module) (g : GoalText × List ℕ) (l : IsLaidIn m g) (n : ℕ) (item : Item) (f : ℕ) (lt : n < length g.0.items)
+module _ (m : Module) (g : GoalText × List ℕ) (l : MayBeLaid m g) (n : ℕ) (item : Item) (f : ℕ) (lt : n < length g.0.items)
     (is : item ≡ get_or g.0.items n item) (number : f ≡ get_or g.1 n 0) where
   abbrev gs : List (Goal ℕ)
   gs = started_goals m g.0
@@ -89,10 +89,10 @@ module _ (m : Module) (g : GoalText × List ℕ) (l : IsLaidIn m g) (n : ℕ) (i
 -- The first n items are laid, whatever the module, and the first process is at `first`.
 pub record IsLayingItems (g : GoalText × List ℕ) (n : ℕ) (base ws : List ℕ) (first : ℕ) : Type 0 where
   pub pages : ArePages ws
-  pub each : (m : Module) → IsLaidIn m g
+  pub each : (m : Module) → MayBeLaid m g
       → (procs : List ℕ) × Standing (length g.0.names) (started_goals m g.0) n base ws procs × (slice_get procs 0 ≡ Some first)
 
-pub items_begin : (g : GoalText × List ℕ) (base w0 w1 : List ℕ) (item : Item) (f p : ℕ) → (m : Module) × IsLaidIn m g
+pub items_begin : (g : GoalText × List ℕ) (base w0 w1 : List ℕ) (item : Item) (f p : ℕ) → (m : Module) × MayBeLaid m g
     → item ≡ get_or g.0.items 0 item → f ≡ get_or g.1 0 0 → LaysPlaces (length g.0.names) base w0 → LaysItemAlways item.call f 1 p w0 w1
     → IsLayingItems g 1 base w1 p
 items_begin g base w0 w1 item f p (m, l) is number places laid = record {
@@ -100,12 +100,12 @@ items_begin g base w0 w1 item f p (m, l) is number places laid = record {
   each = λ k j. (p ∷ [], one k j, refl);
 }
   where
-    one : (k : Module) (j : IsLaidIn k g) → Standing (length g.0.names) (started_goals k g.0) 1 base w1 (p ∷ [])
+    one : (k : Module) (j : MayBeLaid k g) → Standing (length g.0.names) (started_goals k g.0) 1 base w1 (p ∷ [])
     one k j =
         item_more k g j 0 item f j.some is number base w0 []
         (places_stand (length g.0.names) (started_goals k g.0) base w0 places) w1 p laid
 
-pub items_step : (g : GoalText × List ℕ) (n : ℕ) (base ws ws' : List ℕ) (item : Item) (f p first k : ℕ) → (m : Module) × IsLaidIn m g
+pub items_step : (g : GoalText × List ℕ) (n : ℕ) (base ws ws' : List ℕ) (item : Item) (f p first k : ℕ) → (m : Module) × MayBeLaid m g
     → n < length g.0.items → item ≡ get_or g.0.items n item → f ≡ get_or g.1 n 0 → k ≡ n + 1 → LaysItemAlways item.call f k p ws ws'
     → IsLayingItems g n base ws first → IsLayingItems g (n + 1) base ws' first
 items_step g n base ws ws' item f p first k (m, l) lt is number ek laid s = record {
@@ -117,7 +117,7 @@ items_step g n base ws ws' item f p first k (m, l) lt is number ek laid s = reco
     head_on [] x y e = cc
     head_on (z ∷ xs) x y e = e
 
-    more : (j : Module) → IsLaidIn j g
+    more : (j : Module) → MayBeLaid j g
         → (procs : List ℕ) × Standing (length g.0.names) (started_goals j g.0) (n + 1) base ws' procs × (slice_get procs 0 ≡ Some first)
     more j i =
         let r = s.each j i in (
@@ -126,13 +126,13 @@ items_step g n base ws ws' item f p first k (m, l) lt is number ek laid s = reco
           head_on r.0 first p r.2,
         )
 
-pub items_miss : (g : GoalText × List ℕ) (n : ℕ) (base ws : List ℕ) (item : Item) (f first : ℕ) (m : Module) (l : IsLaidIn m g)
+pub items_miss : (g : GoalText × List ℕ) (n : ℕ) (base ws : List ℕ) (item : Item) (f first : ℕ) (m : Module) (l : MayBeLaid m g)
     → n < length g.0.items → item ≡ get_or g.0.items n item → f ≡ get_or g.1 n 0 → IsLayingItems g n base ws first
     → first_fit (rooms ws) (goal_sizes (called m item.call)) ≡ None → first_fit (rooms base) (goal_pieces m g.0) ≡ None
 items_miss g n base ws item f first m l lt is number s none =
     let r = s.each m l in item_misses m g l n item f lt is number base ws r.0 r.1 none
 
-pub first_misses : (g : GoalText × List ℕ) (base w0 : List ℕ) (item : Item) (f : ℕ) (m : Module) (l : IsLaidIn m g)
+pub first_misses : (g : GoalText × List ℕ) (base w0 : List ℕ) (item : Item) (f : ℕ) (m : Module) (l : MayBeLaid m g)
     → item ≡ get_or g.0.items 0 item → f ≡ get_or g.1 0 0 → LaysPlaces (length g.0.names) base w0
     → first_fit (rooms w0) (goal_sizes (called m item.call)) ≡ None → first_fit (rooms base) (goal_pieces m g.0) ≡ None
 first_misses g base w0 item f m l is number places none =
@@ -144,7 +144,7 @@ places_miss m g base none =
     first_fit-append (rooms base) (replicate (length g.names) 2) (flat_map goal_sizes (started_goals m g))
     ∙ ap (option_and_then (λ ss. first_fit ss (flat_map goal_sizes (started_goals m g)))) none
 
-pub items_end : (g : GoalText × List ℕ) (n : ℕ) (base ws : List ℕ) (first : ℕ) (m : Module) → AreNew base → IsLaidIn m g
+pub items_end : (g : GoalText × List ℕ) (n : ℕ) (base ws : List ℕ) (first : ℕ) (m : Module) → AreNew base → MayBeLaid m g
     → length g.0.items ≤ n → IsLayingItems g n base ws first → LaysGoal m g.0 first base ws
 items_end g n base ws first m new l hi s =
     let r = s.each m l in

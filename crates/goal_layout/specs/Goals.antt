@@ -1,6 +1,6 @@
 -- What laying a goal asks, and what it leaves.
-use Rattle.std.specs.Prelude.{◌≡◌, ℕ, ◌+◌, ◌-◌, ◌*◌, ◌%◌, ◌<◌, ◌≤◌, pos, min, List, [], ◌∷◌, length, replicate, slice_get, sum, sum_by}
-use Rattle.std.specs.Prelude.{Some, None}
+use Rattle.std.specs.Prelude.{◌≡◌, ℕ, ◌+◌, ◌-◌, ◌*◌, ◌%◌, ◌<◌, ◌≤◌, pos, min, List, [], ◌∷◌, length, replicate, slice_get}
+use Rattle.std.specs.Prelude.{sum, sum_by, Some, None}
 use Rattle.fcp_model.specs.declared.source.GoalText.{GoalText}
 use Rattle.fcp_model.specs.declared.source.Module.{Module}
 use Rattle.fcp_model.specs.declared.goal.TheConstants.{TRUE_PROCEDURE}
@@ -28,19 +28,23 @@ pub record AreNew (ws : List ℕ) : Type 0 where
   pub small : length ws ≤ 4000000000
   pub fresh : AreFresh (length ws) ws
 
--- each goal has few arguments, each of them narrow
+-- each of the goals has few arguments, each of them narrow
 abbrev pub AreNarrowGoals : List (Goal ℕ) → Type 0
 AreNarrowGoals [] = Unit {0}
 AreNarrowGoals (g ∷ gs) = IsNarrowGoal g × AreNarrowGoals gs
 
--- What laying asks of a goal, with the numbers of its procedures: they are those of the module, and the goal keeps the limits of texts.
-pub record IsLaidIn (m : Module) (g : GoalText × List ℕ) : Type 0 where
+-- What laying asks of a goal, with the numbers of its procedures. Each goal that is read from a text and loads has it.
+pub record MayBeLaid (m : Module) (g : GoalText × List ℕ) : Type 0 where
+  -- the numbers are those of the module, which has fewer procedures than there are numbers below the built-in ones
   pub numbers : AreNumbersOf m g.0.items g.1
   pub procedures : length (procedure_names m.clauses) ≤ TRUE_PROCEDURE
+  -- there are items, and not too many of them
   pub some : 0 < length g.0.items
   pub items : length g.0.items ≤ 256
+  -- variables are numbered from 1, up to at most 250
   pub variables : length g.0.names ≤ 250
   pub numbered : GoalsOver (IsNumbered (length g.0.names)) (started_goals m g.0)
+  -- each call has at most 64 arguments, and each tuple at most 65 parts
   pub narrow : AreNarrowGoals (started_goals m g.0)
 
 -- the goal's pieces
@@ -60,17 +64,20 @@ pub record LaysPlaces (vars : ℕ) (ws ws' : List ℕ) : Type 0 where
   pub words : (k : ℕ) → 1 ≤ k → k ≤ vars → inside_at ws' (2 * k) ≡ Some 0
   pub quiet : (a x : ℕ) → inside_at ws' a ≡ Some x → IsQuiet x
 
--- The goal was laid: its pieces in order, by first fit. The words are a heap and stand for the first state of the goal's runs; the first
--- process is at p, and no top is lower than it was.
+-- The goal was laid.
 pub record LaysGoal (m : Module) (g : GoalText) (p : ℕ) (ws ws' : List ℕ) : Type 0 where
+  -- all of its pieces fit, one after another, each in the first page that has room for it; and these rooms are left
   pub fits : first_fit (rooms ws) (goal_pieces m g) ≡ Some (rooms ws')
+  -- the words are a heap, and stand for the first state of the goal's runs
   pub heap : IsHeap ws'
   pub book : Book
   pub stands : StandsFor book (inside_at ws') (start_of m g)
+  -- the first process is at p
   pub first : slice_get book.processes 0 ≡ Some p
+  -- no top is lower than it was
   pub tops : (q : ℕ) → 1024 * q < length ws → top_at ws (1024 * q) ≤ top_at ws' (1024 * q)
 
--- a number that 32 bits hold: the greatest of them for all that are greater
+-- the number, or the greatest that 32 bits hold where it is greater
 abbrev pub at_most : ℕ → ℕ
 at_most n = min n 4294967295
 

@@ -4,7 +4,7 @@ ghost use Rattle.fcp_model.specs.declared.source.Module.{Module};
 ghost use Rattle.heap_words.specs.Heaps.{AreFresh, fresh_word};
 ghost use Rattle.goal_layout.specs.FirstFit.{first_fit};
 ghost use Rattle.goal_layout.specs.Pages.{rooms};
-ghost use Rattle.goal_layout.specs.Goals.{AreNew, IsLaidIn, LaysGoal, IsLaid, goal_pieces};
+ghost use Rattle.goal_layout.specs.Goals.{AreNew, MayBeLaid, LaysGoal, IsLaid, goal_pieces};
 
 use crate::cells::goal_cells;
 use crate::items::lay_item;
@@ -26,9 +26,9 @@ pub enum Laid {
 /// Lays all pieces, and answers the address of the first process.
 fn lay_all(words: &mut [u64], goal: &LoadedGoal) -> Option<u32>
     requires new { AreNew words.old }
-    requires loads { (m : Module) × IsLaidIn m goal.now }
-    ensures none { (m : Module) → IsLaidIn m goal.now → IfNone result (first_fit (rooms words.old) (goal_pieces m goal.now.0) ≡ None) }
-    ensures laid { (m : Module) → IsLaidIn m goal.now → IfSome result (λ p. LaysGoal m goal.now.0 p words.old words.new) }
+    requires loads { (m : Module) × MayBeLaid m goal.now }
+    ensures none { (m : Module) → MayBeLaid m goal.now → IfNone result (first_fit (rooms words.old) (goal_pieces m goal.now.0) ≡ None) }
+    ensures laid { (m : Module) → MayBeLaid m goal.now → IfSome result (λ p. LaysGoal m goal.now.0 p words.old words.new) }
 {
     let text = goal.goal();
     lay_places(words, text.names.len() as u32)?;
@@ -72,8 +72,8 @@ fn renew(words: &mut [u64])
 /// no memory.
 pub fn lay_goal(words: &mut [u64], goal: &LoadedGoal) -> Laid
     requires new { AreNew words.old }
-    requires loads { (m : Module) × IsLaidIn m goal.now }
-    ensures { (m : Module) → IsLaidIn m goal.now → IsLaid m goal.now.0 words.old words.new result }
+    requires loads { (m : Module) × MayBeLaid m goal.now }
+    ensures { (m : Module) → MayBeLaid m goal.now → IsLaid m goal.now.0 words.old words.new result }
 {
     match lay_all(words, goal) {
         Some(first) => Laid::Done(first),
