@@ -4,6 +4,8 @@
 #[cfg(test)]
 mod edge;
 #[cfg(test)]
+mod goals_in_words;
+#[cfg(test)]
 mod grammar;
 #[cfg(test)]
 mod loader;
