@@ -6,6 +6,8 @@ mod compiler;
 #[cfg(test)]
 mod edge;
 #[cfg(test)]
+mod goals_in_words;
+#[cfg(test)]
 mod grammar;
 #[cfg(test)]
 mod loader;

@@ -1,0 +1,2 @@
+pub mod NarrowGoals
+pub mod GoalsOfTexts
