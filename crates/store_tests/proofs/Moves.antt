@@ -1,18 +1,18 @@
 -- A transfer between the purses of two held pages may be stamped.
-use Rattle.std.proofs.Common.{◌≡◌, ◌≢◌, ◌⊎◌, ℕ, zero, suc, ◌+◌, ◌-◌, ◌*◌, ◌/◌, ◌%◌, ◌^◌, ◌<◌, ◌≤◌, eqb, List, [], ◌∷◌, length, set, Bool}
+use Rattle.std.proofs.Common.{◌≡◌, ◌≢◌, ℕ, ◌+◌, ◌-◌, ◌*◌, ◌/◌, ◌%◌, ◌^◌, ◌<◌, eqb, List, [], ◌∷◌, length, set, Bool}
 use Rattle.std.proofs.Common.{true, false, cond, refl, sym, ap, ◌∙◌, subst, ⊎_elim, inl, inr, arith, eq-eqb, ne_eqb, get_or-set_other}
 use Rattle.std.specs.Prelude.{slice_index}
 use Rattle.word_commit.specs.declared.view.View.{View}
 use Rattle.word_commit.specs.declared.view.Grip.{Grip}
 use Rattle.word_commit.specs.declared.view.Given.{Given}
-use Rattle.word_commit.specs.Meanings.{Meaning, Among}
+use Rattle.word_commit.specs.Meanings.{Among}
 use Rattle.word_commit.specs.Histories.{start_of, applied, tops, Inside, MayWrite}
-use Rattle.word_commit.specs.Views.{Charge, Commits, Moves, Cells, Extra, price, left, is_in, without, loaded}
-use Rattle.word_commit.specs.Conditions.{IsUsed, CouldBe, IsPrimed, Affords, MayStamp}
+use Rattle.word_commit.specs.Views.{Commits, Moves, Cells, Extra, is_in, without, loaded}
+use Rattle.word_commit.specs.Conditions.{IsUsed, CouldBe, Affords, MayStamp}
 use Rattle.word_commit.proofs.Effects.{gripped_held_page, same_tops}
 use Rattle.store_tests.specs.declared.purses.Transfer.{Transfer}
 use Rattle.store_tests.specs.Purses.{purse_words, purses}
-use Rattle.store_tests.specs.Transfers.{IsAsBefore, Looks}
+use Rattle.store_tests.specs.Transfers.{Looks}
 
 -- two loads in a held page
 pub two_loads : (v u w : View Transfer) (page t x : ℕ) → is_in page v.grip.held ≡ true → u ≡ loaded purses v (1024 * page) t → w

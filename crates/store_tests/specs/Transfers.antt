@@ -1,5 +1,5 @@
 -- What a transfer does to a seat.
-use Rattle.std.specs.Prelude.{◌≡◌, ℕ, ◌+◌, ◌*◌, List, [], length}
+use Rattle.std.specs.Prelude.{◌≡◌, ℕ, ◌+◌, ◌*◌, [], length}
 use Rattle.word_commit.specs.declared.view.View.{View}
 use Rattle.word_commit.specs.Meanings.{Among}
 use Rattle.store_tests.specs.declared.purses.Transfer.{Transfer}

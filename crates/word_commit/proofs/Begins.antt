@@ -1,19 +1,18 @@
 -- A store that is made keeps the rule.
-use Rattle.std.proofs.Common.{◌≡◌, ◌⊎◌, ℕ, zero, suc, ◌+◌, ◌*◌, ◌/◌, ◌%◌, ◌^◌, ◌<◌, ◌≤◌, List, [], ◌∷◌, length, true, false, true≢false}
-use Rattle.std.proofs.Common.{refl, sym, ap, ◌∙◌, subst, ⊎_elim, inl, inr, arith, le_refl}
+use Rattle.std.proofs.Common.{◌≡◌, ◌⊎◌, ℕ, zero, suc, ◌+◌, ◌*◌, ◌/◌, ◌^◌, ◌<◌, ◌≤◌, List, [], ◌∷◌, length, true≢false}
+use Rattle.std.proofs.Common.{refl, sym, ap, ◌∙◌, subst, ⊎_elim, inl, inr, arith}
 use Rattle.std.specs.Prelude.{slice_index}
 use mathlib.Core.Option.{some, some-injective, some-ne-none}
 use mathlib.Core.Logic.{dite}
 use native.Mathlib.Decide.{ℕ_discrete, dec_le}
 use lib.ListN.{get_elem?}
-use Rattle.atomic_table.specs.Table.{State, opening}
+use Rattle.atomic_table.specs.Table.{opening}
 use Rattle.word_commit.specs.declared.view.View.{View}
 use Rattle.word_commit.specs.declared.view.Given.{Given}
-use Rattle.word_commit.specs.declared.view.Nothing.{Nothing}
 use Rattle.word_commit.specs.Meanings.{Wording, Meaning, Among}
 use Rattle.word_commit.specs.Histories.{start_of, Inside}
-use Rattle.word_commit.specs.Views.{Charge, Commits, Moves, Cells, Extra, left, granted, all_rights, times, is_in, first_view}
-use Rattle.word_commit.specs.Kept.{words_of, page_at, clock_at, total, numbers_of, IsTrueOf, Kept}
+use Rattle.word_commit.specs.Views.{Charge, Commits, Moves, Cells, Extra, left, granted, all_rights, first_view}
+use Rattle.word_commit.specs.Kept.{words_of, page_at, clock_at, IsTrueOf, Kept}
 use Rattle.word_commit.specs.Openings.{StandsInside, MayOpen}
 
 module _ (m : Wording) where

@@ -1,21 +1,19 @@
 -- A load of the clock keeps the rule.
-use Rattle.std.proofs.Common.{◌≡◌, ◌⊎◌, ℕ, ◌+◌, ◌*◌, ◌<◌, ◌≤◌, List, set, refl, sym, ap, subst, inl, inr, arith, length, ◌^◌}
+use Rattle.std.proofs.Common.{◌≡◌, ℕ, ◌≤◌, List, set, refl, sym, subst, inr, arith}
 use Rattle.std.specs.Prelude.{slice_index}
-use mathlib.Core.Option.{some}
-use lib.ListN.{get_elem?}
 use lib.Seq.{set-get_or}
-use Rattle.atomic_table.specs.Table.{State, Me, keeps, Allows}
+use Rattle.atomic_table.specs.Table.{Me, keeps, Allows}
 use Rattle.atomic_table.proofs.Lists.{set_here}
 use Rattle.word_commit.specs.declared.view.View.{View}
 use Rattle.word_commit.specs.declared.view.Given.{Given}
 use Rattle.word_commit.specs.declared.view.Nothing.{Nothing}
 use Rattle.word_commit.specs.Meanings.{Meaning}
-use Rattle.word_commit.specs.Views.{times, clocked}
-use Rattle.word_commit.specs.Kept.{page_at, clock_at, IsTrueOf, Kept}
+use Rattle.word_commit.specs.Views.{clocked}
+use Rattle.word_commit.specs.Kept.{clock_at, IsTrueOf, Kept}
 use Rattle.word_commit.specs.Sights.{Sees}
 use Rattle.word_commit.proofs.Lists.{at_length}
-use Rattle.word_commit.proofs.Keeping.{S, Changes, changed}
-use Rattle.word_commit.proofs.Sights.{few_entries, sees}
+use Rattle.word_commit.proofs.Keeping.{changed}
+use Rattle.word_commit.proofs.Sights.{sees}
 
 module _ {E : Type 0} (m : Meaning E) (g : Given) where
   pub clocks : (slots id : ℕ) (me : Me Nothing (View E))

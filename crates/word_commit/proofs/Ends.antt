@@ -1,6 +1,6 @@
 -- A store that is closed has one lawful history, and its words.
-use Rattle.std.proofs.Common.{◌≡◌, ◌≢◌, ◌⊎◌, ℕ, zero, suc, ◌+◌, ◌*◌, ◌<◌, ◌≤◌, eqb, List, [], ◌∷◌, ◌++◌, length, take, map, Bool, true}
-use Rattle.std.proofs.Common.{false, cond, refl, sym, ap, ◌∙◌, subst, ⊎_elim, inl, inr, arith, eq-eqb, ne_eqb, Option, None, append-nil}
+use Rattle.std.proofs.Common.{◌≡◌, ℕ, zero, suc, ◌*◌, ◌<◌, ◌≤◌, List, [], ◌∷◌, ◌++◌, length, take, map}
+use Rattle.std.proofs.Common.{refl, sym, ap, ◌∙◌, subst, inl, inr, arith, Option, None, append-nil}
 use Rattle.std.specs.Prelude.{slice_index}
 use mathlib.Core.Option.{some, some-ne-none, some-injective}
 use mathlib.Core.Logic.{dite}
@@ -15,7 +15,7 @@ use Rattle.word_commit.specs.declared.view.Nothing.{Nothing}
 use Rattle.word_commit.specs.Meanings.{Meaning, Among}
 use Rattle.word_commit.specs.Histories.{Inside, Lawful, world}
 use Rattle.word_commit.specs.Views.{all_rights, times}
-use Rattle.word_commit.specs.Kept.{words_of, clock_at, Once, numbers_of, IsLogged, Kept}
+use Rattle.word_commit.specs.Kept.{words_of, Once, numbers_of, IsLogged, Kept}
 use Rattle.word_commit.specs.Seats.{pending_of, kept_of}
 use Rattle.word_commit.specs.Closings.{AreArranged, Closes}
 use Rattle.word_commit.proofs.Pages.{times_same}

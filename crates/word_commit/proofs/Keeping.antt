@@ -1,9 +1,8 @@
 -- What a step leaves as it was.
-use Rattle.std.proofs.Common.{◌≡◌, ◌≢◌, ◌⊎◌, ℕ, zero, suc, ◌+◌, ◌*◌, ◌/◌, ◌<◌, ◌≤◌, List, [], ◌∷◌, ◌++◌, length, set, Bool, true, false}
-use Rattle.std.proofs.Common.{true≢false, cond, refl, sym, ap, ◌∙◌, subst, ⊎_elim, inl, inr, arith, get_or-set_same, get_or-set_other}
-use Rattle.std.proofs.Common.{length-set, le_refl}
+use Rattle.std.proofs.Common.{◌≡◌, ◌≢◌, ◌⊎◌, ℕ, ◌+◌, ◌*◌, ◌/◌, ◌<◌, ◌≤◌, List, [], length, set, true}
+use Rattle.std.proofs.Common.{refl, sym, ap, ◌∙◌, subst, ⊎_elim, inl, inr, arith}
 use Rattle.std.specs.Prelude.{slice_index}
-use mathlib.Core.Option.{some, some-injective, some-ne-none}
+use mathlib.Core.Option.{some, some-injective}
 use mathlib.Core.Logic.{dite}
 use native.Mathlib.Decide.{ℕ_discrete}
 use lib.ListN.{get_elem?}
@@ -14,11 +13,11 @@ use Rattle.word_commit.specs.declared.view.Purse.{Purse}
 use Rattle.word_commit.specs.declared.view.Given.{Given}
 use Rattle.word_commit.specs.declared.view.Nothing.{Nothing}
 use Rattle.word_commit.specs.Meanings.{Meaning, Among}
-use Rattle.word_commit.specs.Histories.{start_of, Inside}
-use Rattle.word_commit.specs.Views.{Charge, left, all_rights, is_in, times}
-use Rattle.word_commit.specs.Kept.{words_of, page_at, clock_at, total, Once, numbers_of, IsBetween, IsShown, IsTrueOf, Lags, Kept}
+use Rattle.word_commit.specs.Histories.{Inside}
+use Rattle.word_commit.specs.Views.{left, all_rights, is_in, times}
+use Rattle.word_commit.specs.Kept.{words_of, page_at, clock_at, total, Once, numbers_of, IsTrueOf, Lags, Kept}
 use Rattle.word_commit.proofs.Lists.{at_length, each_set}
-use Rattle.word_commit.proofs.Totals.{total_set, total_same, total_two, total_alone}
+use Rattle.word_commit.proofs.Totals.{total_set, total_same, total_two}
 use Rattle.word_commit.proofs.Pages.{in_times}
 
 -- a store's table

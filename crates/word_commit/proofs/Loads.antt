@@ -1,14 +1,10 @@
 -- A load keeps the rule.
-use Rattle.std.proofs.Common.{◌≡◌, ◌≢◌, ◌⊎◌, ℕ, zero, suc, ◌+◌, ◌*◌, ◌/◌, ◌<◌, ◌≤◌, eqb, List, [], ◌∷◌, length, set, Bool, true, false}
-use Rattle.std.proofs.Common.{true≢false, cond, refl, sym, ap, ◌∙◌, subst, ⊎_elim, inl, inr, arith, le_refl}
+use Rattle.std.proofs.Common.{◌≡◌, ◌⊎◌, ℕ, ◌+◌, ◌*◌, ◌/◌, ◌<◌, ◌≤◌, eqb, List, [], ◌∷◌, length, set, Bool, true, false}
+use Rattle.std.proofs.Common.{true≢false, cond, refl, sym, ap, ◌∙◌, subst, ⊎_elim, inl, inr, arith}
 use Rattle.std.proofs.lemmas.Bool.{eqb-true, ltb-true}
 use Rattle.std.specs.Prelude.{slice_index, nat_lt}
-use mathlib.Core.Option.{some}
-use mathlib.Core.Logic.{dite}
-use native.Mathlib.Decide.{ℕ_discrete}
-use lib.ListN.{get_elem?}
 use lib.Seq.{set-get_or}
-use Rattle.atomic_table.specs.Table.{State, Me, keeps, Allows}
+use Rattle.atomic_table.specs.Table.{Me, keeps, Allows}
 use Rattle.atomic_table.proofs.Lists.{set_here}
 use Rattle.word_commit.specs.declared.view.View.{View}
 use Rattle.word_commit.specs.declared.view.Grip.{Grip}
@@ -16,9 +12,9 @@ use Rattle.word_commit.specs.declared.view.Given.{Given}
 use Rattle.word_commit.specs.declared.view.Nothing.{Nothing}
 use Rattle.word_commit.specs.Meanings.{Meaning, Among}
 use Rattle.word_commit.specs.Histories.{start_of, Inside, Closed}
-use Rattle.word_commit.specs.Views.{all_rights, is_in, is_below, is_known, gripped, loaded, shown, times}
+use Rattle.word_commit.specs.Views.{is_in, is_below, is_known, gripped, loaded, shown, times}
 use Rattle.word_commit.specs.Kept.{words_of, page_at, IsShown, IsTrueOf, Lags, Kept}
-use Rattle.word_commit.specs.Sights.{Sees, Tells}
+use Rattle.word_commit.specs.Sights.{Tells}
 use Rattle.word_commit.proofs.Lists.{at_length, plain_inside}
 use Rattle.word_commit.proofs.Keeping.{S, Changes, changed}
 use Rattle.word_commit.proofs.Sights.{wide_fold, sees_alone}

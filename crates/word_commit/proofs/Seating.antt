@@ -1,10 +1,9 @@
 -- What a seat has in memory, after a stamp and after words were published.
-use Rattle.std.proofs.Common.{◌≡◌, ℕ, zero, suc, ◌+◌, ◌-◌, ◌<◌, ◌≤◌, List, [], ◌∷◌, ◌++◌, length, drop, refl, sym, ap, ◌∙◌, subst, arith}
+use Rattle.std.proofs.Common.{◌≡◌, ℕ, suc, ◌+◌, ◌-◌, ◌<◌, ◌≤◌, List, [], ◌∷◌, ◌++◌, length, drop, refl, sym, ap, ◌∙◌, subst, arith}
 use Rattle.std.proofs.Common.{append-nil, Option, Some, None}
 use Rattle.std.specs.Prelude.{slice_get}
 use Rattle.word_commit.specs.declared.quota.Quota.{Quota}
 use Rattle.word_commit.specs.declared.view.View.{View}
-use Rattle.word_commit.specs.declared.view.Purse.{Purse}
 use Rattle.word_commit.specs.declared.view.Numbered.{Numbered}
 use Rattle.word_commit.specs.Meanings.{Meaning}
 use Rattle.word_commit.specs.Views.{Commits, Moves, Cells, rest, paid, published, all_published, joined}

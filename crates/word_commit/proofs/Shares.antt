@@ -1,27 +1,24 @@
 -- To share a seat, and to join two, keeps the rule.
-use Rattle.std.proofs.Common.{◌≡◌, ◌≢◌, ◌⊎◌, ℕ, zero, suc, ◌+◌, ◌-◌, ◌*◌, ◌/◌, ◌<◌, ◌≤◌, List, [], ◌∷◌, ◌++◌, length, set, true, false}
-use Rattle.std.proofs.Common.{true≢false, refl, sym, ap, ◌∙◌, subst, ⊎_elim, inl, inr, arith, max}
+use Rattle.std.proofs.Common.{◌≡◌, ℕ, ◌+◌, ◌<◌, ◌≤◌, List, [], ◌∷◌, ◌++◌, length, set}
+use Rattle.std.proofs.Common.{true≢false, refl, sym, ap, ◌∙◌, subst, ⊎_elim, inl, inr, arith}
 use Rattle.std.specs.Prelude.{slice_index}
-use mathlib.Core.Option.{some, some-injective}
-use mathlib.Core.Logic.{dite}
-use native.Mathlib.Decide.{ℕ_discrete}
+use mathlib.Core.Option.{some}
 use lib.ListN.{get_elem?}
 use lib.Seq.{set-get_or}
-use Rattle.atomic_table.specs.Table.{State, Me, keeps, Allows, Splits, Joins}
+use Rattle.atomic_table.specs.Table.{Me, keeps, Allows, Splits, Joins}
 use Rattle.atomic_table.proofs.Lists.{at_snoc, at_longer, set_else, set_again}
 use Rattle.word_commit.specs.declared.quota.Quota.{Quota}
 use Rattle.word_commit.specs.declared.view.View.{View}
-use Rattle.word_commit.specs.declared.view.Numbered.{Numbered}
 use Rattle.word_commit.specs.declared.view.Given.{Given}
 use Rattle.word_commit.specs.declared.view.Nothing.{Nothing}
 use Rattle.word_commit.specs.Meanings.{Meaning, Among}
-use Rattle.word_commit.specs.Views.{Charge, Commits, Moves, Cells, Extra, price, left, granted, is_in, times, shared, part, joined, spent}
-use Rattle.word_commit.specs.Kept.{words_of, page_at, total, Once, numbers_of, IsLogged, IsTrueOf, Lags, Kept}
+use Rattle.word_commit.specs.Views.{Charge, Commits, Moves, Cells, Extra, left, granted, times, shared, part, joined, spent}
+use Rattle.word_commit.specs.Kept.{words_of, total, Once, numbers_of, IsTrueOf, Lags, Kept}
 use Rattle.word_commit.specs.Conditions.{IsWithin}
-use Rattle.word_commit.proofs.Lists.{at_length, each_set, among_either}
+use Rattle.word_commit.proofs.Lists.{each_set, among_either}
 use Rattle.word_commit.proofs.Totals.{total_set, total_snoc, total_part}
 use Rattle.word_commit.proofs.Pages.{times_both, numbers_both}
-use Rattle.word_commit.proofs.Keeping.{S, lags_set}
+use Rattle.word_commit.proofs.Keeping.{lags_set}
 
 module _ {E : Type 0} (m : Meaning E) (g : Given) where
   cut : (c : Charge) (v : View E) (q : Quota) → IsWithin q v → left c (shared v q).purse + left c (part v q).purse ≡ left c v.purse

@@ -1,19 +1,17 @@
 -- What a seat may conclude holds by the rule.
-use Rattle.std.proofs.Common.{◌≡◌, ◌≢◌, ◌⊎◌, ℕ, zero, suc, ◌+◌, ◌*◌, ◌/◌, ◌^◌, ◌<◌, ◌≤◌, eqb, List, [], ◌∷◌, ◌++◌, length, set, true}
-use Rattle.std.proofs.Common.{false, true≢false, cond, refl, sym, ap, ◌∙◌, subst, ⊎_elim, inl, inr, arith, eq-eqb, ne_eqb, length-set}
+use Rattle.std.proofs.Common.{◌≡◌, ℕ, zero, suc, ◌+◌, ◌*◌, ◌/◌, ◌<◌, ◌≤◌, List, [], ◌∷◌, length, set, true}
+use Rattle.std.proofs.Common.{true≢false, cond, refl, sym, ap, ◌∙◌, subst, ⊎_elim, inl, inr, arith, eq-eqb, ne_eqb, length-set}
 use Rattle.std.specs.Prelude.{slice_index}
 use mathlib.Core.Option.{some, some-injective}
 use mathlib.Core.Logic.{dite}
 use native.Mathlib.Decide.{ℕ_discrete}
 use lib.ListN.{get_elem?}
-use Rattle.atomic_table.specs.Table.{State}
 use Rattle.word_commit.specs.declared.quota.Quota.{Quota}
 use Rattle.word_commit.specs.declared.view.View.{View}
 use Rattle.word_commit.specs.declared.view.Given.{Given}
-use Rattle.word_commit.specs.declared.view.Nothing.{Nothing}
 use Rattle.word_commit.specs.Meanings.{Wording, Meaning, Among}
 use Rattle.word_commit.specs.Histories.{start_of, applied, tops, Inside, Lawful, world}
-use Rattle.word_commit.specs.Views.{Charge, Moves, Cells, Extra, price, left, granted, all_rights, is_in, times, shown, last_top}
+use Rattle.word_commit.specs.Views.{Moves, Cells, Extra, price, left, granted, all_rights, is_in, times, shown, last_top}
 use Rattle.word_commit.specs.Views.{shown_tops}
 use Rattle.word_commit.specs.Kept.{words_of, total, Once, numbers_of, Lags, Kept}
 use Rattle.word_commit.specs.Sights.{Sees}

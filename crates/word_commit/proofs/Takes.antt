@@ -1,25 +1,24 @@
 -- A take and a give keep the rule.
-use Rattle.std.proofs.Common.{◌≡◌, ◌≢◌, ◌⊎◌, ℕ, zero, suc, ◌+◌, ◌*◌, ◌/◌, ◌<◌, ◌≤◌, eqb, List, [], ◌∷◌, length, set, Bool, true, false}
-use Rattle.std.proofs.Common.{true≢false, cond, refl, sym, ap, ◌∙◌, subst, ⊎_elim, inl, inr, arith, eq-eqb, ne_eqb, length-set}
+use Rattle.std.proofs.Common.{◌≡◌, ◌≢◌, ℕ, ◌+◌, ◌*◌, ◌/◌, ◌<◌, ◌≤◌, eqb, List, ◌∷◌, set, true, false}
+use Rattle.std.proofs.Common.{cond, refl, sym, ap, ◌∙◌, subst, ⊎_elim, inr, arith, eq-eqb, ne_eqb, length-set}
 use Rattle.std.proofs.Common.{get_or-set_same, get_or-set_other}
 use Rattle.std.specs.Prelude.{slice_index}
 use mathlib.Core.Option.{some}
 use mathlib.Core.Logic.{dite}
 use native.Mathlib.Decide.{ℕ_discrete}
 use lib.ListN.{get_elem?}
-use Rattle.atomic_table.specs.Table.{State, Me, keeps, Allows}
+use Rattle.atomic_table.specs.Table.{Me, keeps, Allows}
 use Rattle.word_commit.specs.declared.view.View.{View}
-use Rattle.word_commit.specs.declared.view.Grip.{Grip}
 use Rattle.word_commit.specs.declared.view.Given.{Given}
 use Rattle.word_commit.specs.declared.view.Nothing.{Nothing}
 use Rattle.word_commit.specs.Meanings.{Meaning, Among}
 use Rattle.word_commit.specs.Views.{all_rights, is_in, times, without, took, gave}
-use Rattle.word_commit.specs.Kept.{words_of, page_at, clock_at, total, IsTrueOf, Kept}
+use Rattle.word_commit.specs.Kept.{page_at, clock_at, total, IsTrueOf, Kept}
 use Rattle.word_commit.proofs.Lists.{among_outside}
 use Rattle.word_commit.proofs.Totals.{total_part, total_alone}
 use Rattle.word_commit.proofs.Pages.{in_times, out_times, times_without, times_else, in_without, times_more, times_same, in_more, in_less}
 use Rattle.word_commit.proofs.Pages.{in_still}
-use Rattle.word_commit.proofs.Keeping.{S, others_spent, Changes, changed}
+use Rattle.word_commit.proofs.Keeping.{S, others_spent, changed}
 
 module _ {E : Type 0} (m : Meaning E) (g : Given) where
   -- The word of a page changed, and with it who holds the page.

@@ -1,12 +1,12 @@
 -- The write of a word in a held page keeps the rule: above the page's top, or of a word that was to be published.
-use Rattle.std.proofs.Common.{◌≡◌, ◌≢◌, ◌⊎◌, ℕ, zero, suc, ◌+◌, ◌*◌, ◌/◌, ◌<◌, ◌≤◌, List, [], ◌∷◌, length, set, true, refl, sym, ap, ◌∙◌}
+use Rattle.std.proofs.Common.{◌≡◌, ◌≢◌, ℕ, ◌+◌, ◌*◌, ◌/◌, ◌<◌, ◌≤◌, List, [], ◌∷◌, set, true, refl, sym, ap, ◌∙◌}
 use Rattle.std.proofs.Common.{subst, ⊎_elim, inl, inr, arith, length-set, get_or-set_same, get_or-set_other}
 use Rattle.std.specs.Prelude.{slice_index}
 use mathlib.Core.Option.{some}
 use mathlib.Core.Logic.{dite}
 use native.Mathlib.Decide.{ℕ_discrete}
 use lib.ListN.{get_elem?}
-use Rattle.atomic_table.specs.Table.{State, Me, keeps, Allows}
+use Rattle.atomic_table.specs.Table.{Me, keeps, Allows}
 use Rattle.word_commit.specs.declared.view.View.{View}
 use Rattle.word_commit.specs.declared.view.Given.{Given}
 use Rattle.word_commit.specs.declared.view.Nothing.{Nothing}
@@ -15,7 +15,7 @@ use Rattle.word_commit.specs.Histories.{start_of, Inside}
 use Rattle.word_commit.specs.Views.{is_in, elsewhere, rest, primed, published}
 use Rattle.word_commit.specs.Kept.{words_of, page_at, clock_at, IsTrueOf, Kept}
 use Rattle.word_commit.proofs.Lists.{among_elsewhere, among_rest}
-use Rattle.word_commit.proofs.Keeping.{S, one_holder, holder_lags, Changes, changed}
+use Rattle.word_commit.proofs.Keeping.{S, one_holder, holder_lags, changed}
 use Rattle.word_commit.proofs.Sights.{tops_rose}
 
 module _ {E : Type 0} (m : Meaning E) (g : Given) where

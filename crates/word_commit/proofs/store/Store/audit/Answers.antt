@@ -1,6 +1,6 @@
-use Rattle.std.proofs.Common.{arith, ℕ, ◌≤◌, ◌<◌, ◌+◌, ◌^◌, List, sym, subst}
+use Rattle.std.proofs.Common.{arith, ℕ, ◌<◌, ◌^◌, List, sym, subst}
 use Rattle.word_commit.specs.declared.view.View.{View}
-use Rattle.word_commit.specs.Views.{Commits, Moves, Cells, left, granted}
+use Rattle.word_commit.specs.Views.{Commits, Moves, Cells}
 use Rattle.word_commit.proofs.Shares.{audits}
 use Rattle.word_commit.proofs.store.Store.audit.Goals as goal
 

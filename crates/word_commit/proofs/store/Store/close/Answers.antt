@@ -1,8 +1,7 @@
-use Rattle.std.proofs.Common.{arith, ℕ, List, [], ◌≡◌, ◌≤◌, ◌*◌, ◌∙◌, ap, sym, subst, length}
+use Rattle.std.proofs.Common.{arith, ℕ, List, ◌≡◌, ◌≤◌, ◌*◌, ◌∙◌, ap, sym, subst, length}
 use Rattle.std.specs.Slots.{slots_items, slots_counts}
 use Rattle.word_commit.specs.Kept.{numbers_of, Once}
-use Rattle.word_commit.specs.Views.{all_rights, times}
-use Rattle.word_commit.specs.Seats.{kept_of}
+use Rattle.word_commit.specs.Views.{times}
 use Rattle.word_commit.specs.declared.view.View.{View}
 use Rattle.word_commit.proofs.Ends.{Ends, ends, kept_settled, numbers_settled, once_settled, closes, closes_as}
 use Rattle.word_commit.proofs.store.Store.close.Goals as goal

@@ -1,10 +1,10 @@
-use Rattle.std.proofs.Common.{arith, ℕ, List, [], ◌≡◌, ◌≤◌, ◌<◌, ◌+◌, ◌∙◌, ap, sym, subst, length, vec_len}
+use Rattle.std.proofs.Common.{arith, ℕ, List, ◌≡◌, ◌≤◌, ◌<◌, ◌∙◌, ap, sym, subst, length, vec_len}
 use Rattle.word_commit.specs.Meanings.{Among}
 use Rattle.word_commit.specs.Views.{joined}
 use Rattle.word_commit.specs.Seats.{Has}
 use Rattle.word_commit.specs.declared.view.View.{View}
 use Rattle.word_commit.proofs.Shares.{joins}
-use Rattle.word_commit.proofs.Seating.{length_kept, kept_joined, numbers_joined, room_joined, has_joined, due_none}
+use Rattle.word_commit.proofs.Seating.{length_kept, kept_joined, numbers_joined, has_joined}
 use Rattle.word_commit.proofs.store.Store.join.Goals as goal
 
 pub join_seat-requires : goal.join_seat-requires

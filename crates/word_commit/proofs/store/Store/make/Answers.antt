@@ -1,4 +1,4 @@
-use Rattle.std.proofs.Common.{arith, ap, subst, sym, ◌∙◌, ◌≡◌, ◌+◌, ◌*◌, ◌/◌, ◌<◌, ◌≤◌, ℕ, List, Vec, Global, length}
+use Rattle.std.proofs.Common.{arith, ap, ◌∙◌, ◌≡◌, ◌/◌, ℕ, List, Vec, Global, length}
 use Rattle.std.specs.Prelude.{slice_index, vec_len}
 use Rattle.word_commit.proofs.Begins.{begins_at}
 use Rattle.word_commit.proofs.store.Store.make.Goals as goal

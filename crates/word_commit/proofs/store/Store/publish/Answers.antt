@@ -1,4 +1,4 @@
-use Rattle.std.proofs.Common.{arith, ℕ, zero, List, [], ◌≡◌, ◌<◌, ap, sym, subst, ◌∙◌, length}
+use Rattle.std.proofs.Common.{arith, ℕ, List, [], ◌≡◌, ◌<◌, ap, sym, subst, ◌∙◌, length}
 use Rattle.word_commit.specs.Meanings.{Among}
 use Rattle.word_commit.specs.Seats.{Has}
 use Rattle.word_commit.specs.Views.{all_published}

@@ -4,7 +4,6 @@ use Rattle.word_commit.specs.Views.{stamped}
 use Rattle.word_commit.specs.Seats.{Has, kept_of}
 use Rattle.word_commit.specs.Conditions.{MayStamp}
 use Rattle.word_commit.specs.declared.view.View.{View}
-use Rattle.word_commit.specs.declared.view.Numbered.{Numbered}
 use Rattle.word_commit.proofs.Seating.{kept_more, numbers_more, room_more, has_less, can_pay}
 use Rattle.word_commit.proofs.store.Store.stamp.Goals as goal
 

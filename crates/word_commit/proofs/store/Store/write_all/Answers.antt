@@ -1,4 +1,4 @@
-use Rattle.std.proofs.Common.{arith, ℕ, List, [], ◌∷◌, ◌≡◌, ◌<◌, ◌≤◌, ◌+◌, ◌-◌, ap, sym, subst, ◌∙◌, refl, inl, length, Some}
+use Rattle.std.proofs.Common.{arith, ℕ, List, [], ◌≡◌, ◌<◌, ◌+◌, ◌-◌, ap, sym, subst, ◌∙◌, refl, inl, length, Some}
 use Rattle.std.specs.Prelude.{slice_get}
 use Rattle.word_commit.specs.Meanings.{Among}
 use Rattle.word_commit.specs.Views.{published, all_published}
