@@ -1,29 +1,35 @@
 -- A transfer between the purses of two held pages may be stamped.
-use Rattle.std.proofs.Common.{◌≡◌, ◌≢◌, ◌⊎◌, ℕ, zero, suc, ◌+◌, ◌-◌, ◌*◌, ◌/◌, ◌%◌, ◌^◌, ◌<◌, ◌≤◌, eqb, List, [], ◌∷◌, length, set, Bool, true, false, cond, refl, sym, ap, ◌∙◌, subst, ⊎_elim, inl, inr, arith, eq-eqb, ne_eqb, get_or-set_other}
+use Rattle.std.proofs.Common.{◌≡◌, ◌≢◌, ℕ, ◌+◌, ◌-◌, ◌*◌, ◌/◌, ◌%◌, ◌^◌, ◌<◌, eqb, List, [], ◌∷◌, length, set, Bool}
+use Rattle.std.proofs.Common.{true, false, cond, refl, sym, ap, ◌∙◌, subst, ⊎_elim, inl, inr, arith, eq-eqb, ne_eqb, get_or-set_other}
 use Rattle.std.specs.Prelude.{slice_index}
 use Rattle.word_commit.specs.declared.view.View.{View}
 use Rattle.word_commit.specs.declared.view.Grip.{Grip}
 use Rattle.word_commit.specs.declared.view.Given.{Given}
-use Rattle.word_commit.specs.Meanings.{Meaning, Among}
+use Rattle.word_commit.specs.Meanings.{Among}
 use Rattle.word_commit.specs.Histories.{start_of, applied, tops, Inside, MayWrite}
-use Rattle.word_commit.specs.Views.{Charge, Commits, Moves, Cells, Extra, price, left, is_in, without, loaded}
-use Rattle.word_commit.specs.Conditions.{IsUsed, CouldBe, IsPrimed, Affords, MayStamp}
+use Rattle.word_commit.specs.Views.{Commits, Moves, Cells, Extra, is_in, without, loaded}
+use Rattle.word_commit.specs.Conditions.{IsUsed, CouldBe, Affords, MayStamp}
 use Rattle.word_commit.proofs.Effects.{gripped_held_page, same_tops}
 use Rattle.store_tests.specs.declared.purses.Transfer.{Transfer}
 use Rattle.store_tests.specs.Purses.{purse_words, purses}
-use Rattle.store_tests.specs.Transfers.{IsAsBefore, Looks}
+use Rattle.store_tests.specs.Transfers.{Looks}
 
 -- two loads in a held page
-pub two_loads : (v u w : View Transfer) (page t x : ℕ) → is_in page v.grip.held ≡ true → u ≡ loaded purses v (1024 * page) t → w ≡ loaded purses u (1024 * page + 1) x → Looks v w page t x
+pub two_loads : (v u w : View Transfer) (page t x : ℕ) → is_in page v.grip.held ≡ true → u ≡ loaded purses v (1024 * page) t → w
+    ≡ loaded purses u (1024 * page + 1) x → Looks v w page t x
 two_loads v u w page t x held e f =
     let p : page ≡ (1024 * page) / 1024 = omega arith in
     let q : page ≡ (1024 * page + 1) / 1024 = omega arith in
-    let a : u.grip ≡ record v.grip { known = (1024 * page, t) ∷ v.grip.known } = ap (λ (z : View Transfer). z.grip) e ∙ gripped_held_page v.grip (1024 * page) t (subst (λ (i : ℕ). is_in i v.grip.held ≡ true) p held) in
+    let a : u.grip ≡ record v.grip { known = (1024 * page, t) ∷ v.grip.known } = ap (λ (z : View Transfer). z.grip) e
+    ∙ gripped_held_page v.grip (1024 * page) t (subst (λ (i : ℕ). is_in i v.grip.held ≡ true) p held) in
     let uh : u.grip.held ≡ v.grip.held = ap (λ (z : Grip). z.held) a in
     let b : w.grip ≡ record u.grip { known = (1024 * page + 1, x) ∷ u.grip.known } = ap (λ (z : View Transfer). z.grip) f
-    ∙ gripped_held_page u.grip (1024 * page + 1) x (subst (λ (i : ℕ). is_in i u.grip.held ≡ true) q (subst (λ l. is_in page l ≡ true) (sym uh) held)) in
-    let known : w.grip.known ≡ (1024 * page + 1, x) ∷ (1024 * page, t) ∷ v.grip.known = ap (λ (z : Grip). z.known) b ∙ ap (λ l. (1024 * page + 1, x) ∷ l) (ap (λ (z : Grip). z.known) a) in
-    let here : (y : ℕ × ℕ) → Among ((1024 * page + 1, x) ∷ (1024 * page, t) ∷ v.grip.known) y → Among w.grip.known y = (λ y h. subst (λ l. Among l y) (sym known) h) in
+    ∙ gripped_held_page u.grip (1024 * page + 1) x (subst (λ (i : ℕ). is_in i u.grip.held ≡ true) q
+    (subst (λ l. is_in page l ≡ true) (sym uh) held)) in
+    let known : w.grip.known ≡ (1024 * page + 1, x) ∷ (1024 * page, t) ∷ v.grip.known = ap (λ (z : Grip). z.known) b ∙ ap
+    (λ l. (1024 * page + 1, x) ∷ l) (ap (λ (z : Grip). z.known) a) in
+    let here : (y : ℕ × ℕ) → Among ((1024 * page + 1, x) ∷ (1024 * page, t) ∷ v.grip.known) y → Among w.grip.known y =
+    (λ y h. subst (λ l. Among l y) (sym known) h) in
     record {
       before = record {
         entries = ap (λ (z : View Transfer). z.entries) f ∙ ap (λ (z : View Transfer). z.entries) e;
@@ -51,7 +57,8 @@ pub both_held : (from to : ℕ) → (is_in from (to ∷ from ∷ []) ≡ true) �
 both_held from to = (in_second to from (from ∷ []) (in_first from []), in_first to (from ∷ []))
 
 -- and they are given one after the other
-pub both_given : (from to : ℕ) → to ≢ from → (without from (to ∷ from ∷ []) ≡ to ∷ []) × (is_in to (to ∷ []) ≡ true) × (without to (to ∷ []) ≡ [])
+pub both_given : (from to : ℕ) → to ≢ from → (without from (to ∷ from ∷ []) ≡ to ∷ []) × (is_in to (to ∷ []) ≡ true)
+    × (without to (to ∷ []) ≡ [])
 both_given from to ne = (
   subst (λ b. cond b (without from (from ∷ [])) (to ∷ without from (from ∷ [])) ≡ to ∷ []) (sym (ne_eqb to from ne))
       (ap (λ l. to ∷ l) (subst (λ b. cond b [] (from ∷ []) ≡ []) (sym (eq-eqb from from refl)) refl)),
@@ -82,18 +89,21 @@ module _ (g : Given) (v : View Transfer) (from to t u had owned : ℕ) (p : Purs
   after w = applied w ws
 
   elsewhere : (w : List ℕ) (a : ℕ) → a ≢ 1024 * from + 1 → a ≢ 1024 * to + 1 → slice_index (after w) a ≡ slice_index w a
-  elsewhere w a x y = get_or-set_other (set w (1024 * from + 1) (had - 1)) (1024 * to + 1) a ((owned + 1) % 2 ^ 64) 0 y ∙ get_or-set_other w (1024 * from + 1) a (had - 1) 0 x
+  elsewhere w a x y = get_or-set_other (set w (1024 * from + 1) (had - 1)) (1024 * to + 1) a ((owned + 1) % 2 ^ 64) 0 y
+      ∙ get_or-set_other w (1024 * from + 1) a (had - 1) 0 x
 
   starts : (w : List ℕ) (a : ℕ) → a ≡ start_of a → slice_index (after w) a ≡ slice_index w a
   starts w a e = elsewhere w a (λ x. omega arith) (λ x. omega arith)
 
   inside_still : (w : List ℕ) (a : ℕ) → Inside purse_words w a → Inside purse_words (after w) a
   inside_still w a h = ⊎_elim (λ (e : a ≡ start_of a). inl e)
-      (λ (l : a < slice_index w (start_of a)). let s = starts w (start_of a) (let k : start_of a ≡ start_of (start_of a) = omega arith in k) in inr (omega arith)) h
+      (λ (l : a < slice_index w (start_of a)). let s = starts w (start_of a)
+      (let k : start_of a ≡ start_of (start_of a) = omega arith in k) in inr (omega arith)) h
 
   inside_was : (w : List ℕ) (a : ℕ) → Inside purse_words (after w) a → Inside purse_words w a
   inside_was w a h = ⊎_elim (λ (e : a ≡ start_of a). inl e)
-      (λ (l : a < slice_index (after w) (start_of a)). let s = starts w (start_of a) (let k : start_of a ≡ start_of (start_of a) = omega arith in k) in inr (omega arith)) h
+      (λ (l : a < slice_index (after w) (start_of a)). let s = starts w (start_of a)
+      (let k : start_of a ≡ start_of (start_of a) = omega arith in k) in inr (omega arith)) h
 
   from_inside : (w : List ℕ) → CouldBe purse_words g.pages v.grip.known w → Inside purse_words w (1024 * from + 1)
   from_inside w c =
@@ -111,12 +121,14 @@ module _ (g : Given) (v : View Transfer) (from to t u had owned : ℕ) (p : Purs
       let above = p.to_above in
       inr (subst (λ (i : ℕ). 1024 * to + 1 < slice_index w i) turn (omega arith))
 
-  each_write : (P : ℕ × ℕ → Type 0) → P (1024 * from + 1, had - 1) → P (1024 * to + 1, (owned + 1) % 2 ^ 64) → (x : ℕ × ℕ) → Among ws x → P x
+  each_write : (P : ℕ × ℕ → Type 0) → P (1024 * from + 1, had - 1) → P (1024 * to + 1, (owned + 1) % 2 ^ 64) → (x : ℕ × ℕ) → Among ws x
+      → P x
   each_write P a b x (inl e) = subst P e a
   each_write P a b x (inr (inl e)) = subst P e b
   each_write P a b x (inr (inr h)) = absurd h
 
-  each_read : (P : ℕ × ℕ → Type 0) → P (1024 * from + 1, had) → P (1024 * to + 1, owned) → (x : ℕ × ℕ) → Among (purses.reads entry) x → P x
+  each_read : (P : ℕ × ℕ → Type 0) → P (1024 * from + 1, had) → P (1024 * to + 1, owned) → (x : ℕ × ℕ) → Among (purses.reads entry) x
+      → P x
   each_read P a b x (inl e) = subst P e a
   each_read P a b x (inr (inl e)) = subst P e b
   each_read P a b x (inr (inr h)) = absurd h
@@ -127,7 +139,8 @@ module _ (g : Given) (v : View Transfer) (from to t u had owned : ℕ) (p : Purs
   may_write : (w : List ℕ) → CouldBe purse_words g.pages v.grip.known w → MayWrite purse_words w ws
   may_write w c = record {
     distinct = (
-      (λ y h. ⊎_elim (λ (e : (1024 * to + 1, (owned + 1) % 2 ^ 64) ≡ (1024 * from + 1, y)). let q = ap (λ (z : ℕ × ℕ). z.0) e in p.pages.2 (omega arith)) (λ none_left. absurd none_left) h),
+      (λ y h. ⊎_elim (λ (e : (1024 * to + 1, (owned + 1) % 2 ^ 64) ≡ (1024 * from + 1, y)). let q = ap (λ (z : ℕ × ℕ). z.0) e in
+          p.pages.2 (omega arith)) (λ none_left. absurd none_left) h),
       ((λ y h. h), tt),
     );
     ranges = let l = c.0 in let a = p.pages.0 in let b = p.pages.1 in each_write (λ x. x.0 < length w) (omega arith) (omega arith);
@@ -152,9 +165,12 @@ module _ (g : Given) (v : View Transfer) (from to t u had owned : ℕ) (p : Purs
         reads = λ x h. inl (each_read (λ x. Among v.grip.known x × IsUsed purse_words v.grip.known x.0)
             (p.from_word, inr (t, subst (λ (i : ℕ). Among v.grip.known (i, t)) fs p.from_top, p.from_above))
             (p.to_word, inr (u, subst (λ (i : ℕ). Among v.grip.known (i, u)) ts p.to_top, p.to_above)) x h);
-        held = each_write (λ x. is_in (x.0 / 1024) v.grip.held ≡ true) (subst (λ (i : ℕ). is_in i v.grip.held ≡ true) fp from_held) (subst (λ (i : ℕ). is_in i v.grip.held ≡ true) tp to_held);
+        held = each_write (λ x. is_in (x.0 / 1024) v.grip.held ≡ true) (subst (λ (i : ℕ). is_in i v.grip.held ≡ true) fp from_held)
+            (subst (λ (i : ℕ). is_in i v.grip.held ≡ true) tp to_held);
         writes = may_write;
-        cells = λ w c. let s : tops purse_words g.pages (after w) ≡ tops purse_words g.pages w = same_tops purse_words g.pages w (after w) (λ q. starts w (1024 * q) (let k : 1024 * q ≡ start_of (1024 * q) = omega arith in k)) in omega arith;
+        cells = λ w c. let s : tops purse_words g.pages (after w)
+            ≡ tops purse_words g.pages w = same_tops purse_words g.pages w (after w)
+            (λ q. starts w (1024 * q) (let k : 1024 * q ≡ start_of (1024 * q) = omega arith in k)) in omega arith;
         primed = λ x h w c out. absurd (out (each_inside w c x h));
       }
 

@@ -1,5 +1,4 @@
 -- Words that refer to nothing keep what every kind of entries keeps.
-use Rattle.std.specs.Prelude.{false, true}
 use Rattle.std.proofs.Common.{true≢false, sym}
 use Rattle.word_commit.specs.Histories.{Laws}
 use Rattle.store_tests.specs.Purses.{purses}

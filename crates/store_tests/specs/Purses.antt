@@ -1,5 +1,5 @@
 -- What transfers between purses read and write.
-use Rattle.std.specs.Prelude.{ℕ, ◌+◌, ◌-◌, ◌%◌, ◌^◌, [], ◌∷◌, false}
+use Rattle.std.specs.Prelude.{◌+◌, ◌-◌, ◌%◌, ◌^◌, [], ◌∷◌, false}
 use Rattle.word_commit.specs.Meanings.{Wording, Meaning}
 use Rattle.store_tests.specs.declared.purses.Transfer.{Transfer}
 

@@ -1,5 +1,5 @@
 -- What a transfer does to a seat.
-use Rattle.std.specs.Prelude.{◌≡◌, ℕ, ◌+◌, ◌*◌, List, [], length}
+use Rattle.std.specs.Prelude.{◌≡◌, ℕ, ◌+◌, ◌*◌, [], length}
 use Rattle.word_commit.specs.declared.view.View.{View}
 use Rattle.word_commit.specs.Meanings.{Among}
 use Rattle.store_tests.specs.declared.purses.Transfer.{Transfer}
@@ -33,4 +33,5 @@ count_of Empty = 0
 -- so many entries more, and so much less room and quota
 abbrev pub Spends : View Transfer → View Transfer → ℕ → ℕ → ℕ → Type 0
 Spends old new room left n =
-    (length new.entries ≡ length old.entries + n) × (left + n ≡ room) × (new.purse.moves + n ≡ old.purse.moves) × (new.purse.rights ≡ old.purse.rights)
+    (length new.entries ≡ length old.entries + n) × (left + n ≡ room) × (new.purse.moves + n ≡ old.purse.moves)
+    × (new.purse.rights ≡ old.purse.rights)

@@ -3,6 +3,8 @@
 
 mod banks;
 mod moved;
+mod notes;
+mod noting;
 mod purses;
 mod runs;
 mod spending;
@@ -13,6 +15,8 @@ mod workers;
 
 pub use banks::bank;
 pub use moved::Moved;
+pub use notes::{NOTE, Note, Notes};
+pub use noting::{blank_page, note};
 pub use purses::{Purses, Transfer};
 pub use runs::{Finish, purse_run};
 pub use spending::{Tally, spend};

@@ -1,4 +1,4 @@
-use crate::{Purses, Transfer, bank, glances, purse_run};
+use crate::{NOTE, Notes, Purses, Transfer, bank, blank_page, glances, note, purse_run};
 use std::test::Fail;
 use word_commit::{Closed, Quota, Shared, Store, Taken};
 
@@ -121,5 +121,33 @@ fn a_seat_meets_words_that_lag(rt: HostRuntime) -> Result<(), Fail> {
         glances(&store, &mut first, &mut second, 0, 1),
         Some((100, 99))
     );
+    Ok(())
+}
+
+/// Two new words of a page, each of which holds its entry's number and was primed before it had one.
+#[test]
+fn notes_hold_their_numbers(rt: HostRuntime) -> Result<(), Fail> {
+    let cells = Quota {
+        commits: 0,
+        moves: 0,
+        cells: 2,
+    };
+    let (store, mut seat) = Store::<Notes>::make(rt.alloc(), blank_page(rt.alloc())?, cells, 2)?;
+    let Some(1) = note(&store, &mut seat, 0) else {
+        panic!(rt; "the first entry has the number 1")
+    };
+    assert_eq!(rt; store.clock(&mut seat), 1);
+    let Some(2) = note(&store, &mut seat, 0) else {
+        panic!(rt; "the second has the number 2")
+    };
+    assert_eq!(rt; store.quota(&seat).cells, 0);
+    let found = [
+        store.load(&mut seat, 0),
+        store.load(&mut seat, 1),
+        store.load(&mut seat, 2),
+    ];
+    assert_eq!(rt; found, [3, NOTE + 1, NOTE + 2]);
+    let closed = store.close(seat);
+    assert_eq!(rt; closed.log.len(), 2);
     Ok(())
 }

@@ -56,7 +56,8 @@ fn stamp_coin(store: &Store<Purses>, seat: &mut Seat<Purses>, from: u32, to: u32
     requires funds { (0 < spare_of seat.old) × (0 < (view_of seat.old).purse.moves) }
     ensures seat { IsSeatOf store.now seat.new }
     ensures held { (view_of seat.new).grip.held ≡ to ∷ from ∷ [] }
-    ensures spends { Spends (view_of seat.old) (view_of seat.new) (spare_of seat.old) (spare_of seat.new) (if is_some result then 1 else 0) }
+    ensures spends { Spends (view_of seat.old)
+        (view_of seat.new) (spare_of seat.old) (spare_of seat.new) (if is_some result then 1 else 0) }
     ensures none { IfNone result ((view_of seat.new).grip.due ≡ []) }
 {
     let (first_top, had) = look(store, seat, from);

@@ -1,12 +1,14 @@
 -- The stamp of an entry keeps the rule.
-use Rattle.std.proofs.Common.{◌≡◌, ◌≢◌, ◌⊎◌, ℕ, zero, suc, ◌+◌, ◌-◌, ◌*◌, ◌/◌, ◌%◌, ◌^◌, ◌<◌, ◌≤◌, List, [], ◌∷◌, ◌++◌, length, set, true, false, true≢false, refl, sym, ap, ◌∙◌, subst, ⊎_elim, inl, inr, arith, get_or-set_same, get_or-set_other, length-set, length-append}
+use Rattle.std.proofs.Common.{◌≡◌, ◌≢◌, ◌⊎◌, ℕ, suc, ◌+◌, ◌-◌, ◌*◌, ◌/◌, ◌%◌, ◌^◌, ◌<◌, ◌≤◌, List, [], ◌∷◌, ◌++◌, length, set, true}
+use Rattle.std.proofs.Common.{false, true≢false, refl, sym, ap, ◌∙◌, subst, ⊎_elim, inl, inr, arith, get_or-set_same, get_or-set_other}
+use Rattle.std.proofs.Common.{length-set, length-append}
 use Rattle.std.specs.Prelude.{slice_index}
 use mathlib.Core.Option.{some, some-injective}
 use mathlib.Core.Logic.{dite}
 use native.Mathlib.Decide.{ℕ_discrete}
 use lib.ListN.{get_elem?}
 use Rattle.std.proofs.Math.Nat.{mod-eq_of_lt}
-use Rattle.atomic_table.specs.Table.{State, Me, keeps, Allows}
+use Rattle.atomic_table.specs.Table.{Me, keeps, Allows}
 use Rattle.atomic_table.proofs.Lists.{set_here, set_else, at_longer, at_last}
 use Rattle.word_commit.specs.declared.quota.Quota.{Quota}
 use Rattle.word_commit.specs.declared.view.View.{View}
@@ -15,9 +17,11 @@ use Rattle.word_commit.specs.declared.view.Numbered.{Numbered}
 use Rattle.word_commit.specs.declared.view.Given.{Given}
 use Rattle.word_commit.specs.declared.view.Nothing.{Nothing}
 use Rattle.word_commit.specs.Meanings.{Meaning, Among}
-use Rattle.word_commit.specs.Histories.{start_of, applied, Distinct, tops, Inside, Closed, AddsNothing, MayWrite, Laws, MayFollow, Lawful, world}
+use Rattle.word_commit.specs.Histories.{start_of, applied, Distinct, tops, Inside, Closed, AddsNothing, MayWrite, Laws, MayFollow, Lawful}
+use Rattle.word_commit.specs.Histories.{world}
 use Rattle.word_commit.specs.Views.{Charge, Commits, Moves, Cells, Extra, price, left, granted, is_in, times, shown, paid, stamped}
-use Rattle.word_commit.specs.Kept.{words_of, page_at, clock_at, total, Once, numbers_of, IsLogged, Plain, IsBetween, IsShown, IsTrueOf, Lags, Kept}
+use Rattle.word_commit.specs.Kept.{words_of, page_at, clock_at, total, Once, numbers_of, IsLogged, Plain, IsBetween, IsShown, IsTrueOf}
+use Rattle.word_commit.specs.Kept.{Lags, Kept}
 use Rattle.word_commit.specs.Conditions.{IsUsed, CouldBe, Affords, MayStamp}
 use Rattle.word_commit.proofs.Lists.{at_length, each_set, among_left, among_right, among_either, distinct_few}
 use Rattle.word_commit.proofs.Totals.{total_set, total_same, total_snoc, total_part}
@@ -27,22 +31,27 @@ use Rattle.word_commit.proofs.Begins.{inside_or_not}
 use Rattle.word_commit.proofs.Sights.{length-applied, takes_one, entries_below, few_entries, wide_fold, tops_rose}
 
 -- words after writes, at an address that is not written, and at one that is
-pub applied_else : (w : List ℕ) (ws : List (ℕ × ℕ)) (a : ℕ) → ((y : ℕ) → Among ws (a, y) → ⊥) → slice_index (applied w ws) a ≡ slice_index w a
+pub applied_else : (w : List ℕ) (ws : List (ℕ × ℕ)) (a : ℕ) → ((y : ℕ) → Among ws (a, y) → ⊥) → slice_index (applied w ws) a
+    ≡ slice_index w a
 applied_else w [] a none_there = refl
-applied_else w (x ∷ xs) a none_there = applied_else (set w x.0 x.1) xs a (λ y h. none_there y (inr h)) ∙ get_or-set_other w x.0 a x.1 0 (λ e. none_there x.1 (inl (λ i. (sym e i, x.1))))
+applied_else w (x ∷ xs) a none_there = applied_else (set w x.0 x.1) xs a (λ y h. none_there y (inr h)) ∙ get_or-set_other w x.0 a x.1 0
+    (λ e. none_there x.1 (inl (λ i. (sym e i, x.1))))
 
-pub applied_here : (w : List ℕ) (ws : List (ℕ × ℕ)) (x : ℕ × ℕ) → Distinct ws → Among ws x → x.0 < length w → slice_index (applied w ws) x.0 ≡ x.1
+pub applied_here : (w : List ℕ) (ws : List (ℕ × ℕ)) (x : ℕ × ℕ) → Distinct ws → Among ws x → x.0 < length w
+    → slice_index (applied w ws) x.0 ≡ x.1
 applied_here w [] x d h inside = absurd h
 applied_here w (y ∷ ys) x d (inl e) inside = subst (λ (z : ℕ × ℕ). slice_index (applied (set w y.0 y.1) ys) z.0 ≡ z.1) e
     (applied_else (set w y.0 y.1) ys y.0 d.0 ∙ get_or-set_same w y.0 y.1 0 (subst (λ (z : ℕ × ℕ). z.0 < length w) (sym e) inside))
-applied_here w (y ∷ ys) x d (inr h) inside = applied_here (set w y.0 y.1) ys x d.1 h (subst (λ (n : ℕ). x.0 < n) (sym (length-set w y.0 y.1)) inside)
+applied_here w (y ∷ ys) x d (inr h) inside = applied_here (set w y.0 y.1) ys x d.1 h
+    (subst (λ (n : ℕ). x.0 < n) (sym (length-set w y.0 y.1)) inside)
 
 -- whether an address is written
 pub written : (ws : List (ℕ × ℕ)) (a : ℕ) → ((x : ℕ) × Among ws (a, x)) ⊎ ((y : ℕ) → Among ws (a, y) → ⊥)
 written [] a = inr (λ y h. h)
 written (x ∷ xs) a = dite (ℕ_discrete x.0 a) (λ e. inl (x.1, inl (λ i. (e i, x.1))))
     (λ ne. ⊎_elim (λ (t : (y : ℕ) × Among xs (a, y)). inl (t.0, inr t.1))
-    (λ (t : (y : ℕ) → Among xs (a, y) → ⊥). inr (λ y h. ⊎_elim (λ (e : x ≡ (a, y)). ne (ap (λ (z : ℕ × ℕ). z.0) e)) (λ (r : Among xs (a, y)). t y r) h)) (written xs a))
+    (λ (t : (y : ℕ) → Among xs (a, y) → ⊥). inr (λ y h. ⊎_elim (λ (e : x ≡ (a, y)). ne (ap (λ (z : ℕ × ℕ). z.0) e))
+    (λ (r : Among xs (a, y)). t y r) h)) (written xs a))
 
 -- what is left after a cost that can be paid
 left_paid : (c : Charge) (p : Purse) (q : Quota) → left c (paid p q) ≡ left c p - price c q
@@ -52,22 +61,28 @@ left_paid Cells p q = refl
 left_paid Extra p q = refl
 
 module _ {E : Type 0} (m : Meaning E) where
-  world_snoc : (n : ℕ) (w : List ℕ) (es : List E) (e : E) → world m n w (es ++ e ∷ []) ≡ applied (world m n w es) (m.writes e (n + length es))
+  world_snoc : (n : ℕ) (w : List ℕ) (es : List E) (e : E) → world m n w (es ++ e ∷ [])
+      ≡ applied (world m n w es) (m.writes e (n + length es))
   world_snoc n w [] e = ap (λ (k : ℕ). applied w (m.writes e k)) (let h : n ≡ n + 0 = omega arith in h)
   world_snoc n w (d ∷ es) e = world_snoc (suc n) (applied w (m.writes d n)) es e
-      ∙ ap (λ (k : ℕ). applied (world m (suc n) (applied w (m.writes d n)) es) (m.writes e k)) (let h : suc n + length es ≡ n + suc (length es) = omega arith in h)
+      ∙ ap (λ (k : ℕ). applied (world m (suc n) (applied w (m.writes d n)) es) (m.writes e k))
+      (let h : suc n + length es ≡ n + suc (length es) = omega arith in h)
 
-  lawful_snoc : (n : ℕ) (w : List ℕ) (es : List E) (e : E) → Lawful m n w es → MayFollow m (n + length es) (world m n w es) e → Lawful m n w (es ++ e ∷ [])
+  lawful_snoc : (n : ℕ) (w : List ℕ) (es : List E) (e : E) → Lawful m n w es → MayFollow m (n + length es) (world m n w es) e
+      → Lawful m n w (es ++ e ∷ [])
   lawful_snoc n w [] e law may = (subst (λ (k : ℕ). MayFollow m k w e) (let h : n + 0 ≡ n = omega arith in h) may, tt)
   lawful_snoc n w (d ∷ es) e law may = (
     law.0,
     lawful_snoc (suc n) (applied w (m.writes d n)) es e law.1
-        (subst (λ (k : ℕ). MayFollow m k (world m (suc n) (applied w (m.writes d n)) es) e) (let h : n + suc (length es) ≡ suc n + length es = omega arith in h) may),
+        (subst (λ (k : ℕ). MayFollow m k (world m (suc n) (applied w (m.writes d n)) es) e)
+        (let h : n + suc (length es) ≡ suc n + length es = omega arith in h) may),
   )
 
-  pub inside_after : (w : List ℕ) (ws : List (ℕ × ℕ)) (a : ℕ) → MayWrite m.words w ws → Inside m.words w a → Inside m.words (applied w ws) a
+  pub inside_after : (w : List ℕ) (ws : List (ℕ × ℕ)) (a : ℕ) → MayWrite m.words w ws → Inside m.words w a
+      → Inside m.words (applied w ws) a
   inside_after w ws a may inside = ⊎_elim (λ (t : a ≡ start_of a). inl t)
-      (λ (t : a < m.words.top (slice_index w (start_of a))). let r = may.rises (start_of a) (let h : start_of a ≡ start_of (start_of a) = omega arith in h) in inr (omega arith)) inside
+      (λ (t : a < m.words.top (slice_index w (start_of a))). let r = may.rises (start_of a)
+      (let h : start_of a ≡ start_of (start_of a) = omega arith in h) in inr (omega arith)) inside
 
   still_plain : (ever more : List (ℕ × ℕ)) (x : ℕ × ℕ) → Plain m ever x → Plain m (ever ++ more) x
   still_plain ever ws x (inl h) = inl (among_left ever ws x h)
@@ -77,16 +92,19 @@ module _ {E : Type 0} (m : Meaning E) where
   still_logged log more x h = (h.0, h.1, at_longer log more h.0 x.entry h.2)
 
   module _ (g : Given) where
-    still_between : (w : List ℕ) (ws : List (ℕ × ℕ)) (x : ℕ × ℕ) → MayWrite m.words w ws → IsBetween m (words_of g) w x → IsBetween m (words_of g) (applied w ws) x
+    still_between : (w : List ℕ) (ws : List (ℕ × ℕ)) (x : ℕ × ℕ) → MayWrite m.words w ws → IsBetween m (words_of g) w x
+        → IsBetween m (words_of g) (applied w ws) x
     still_between w ws x may h start = let r = may.rises x.0 start in let a = h start in let b = a.1 in (a.0, (omega arith))
 
-    still_shown : (ever : List (ℕ × ℕ)) (w : List ℕ) (ws : List (ℕ × ℕ)) (x : ℕ × ℕ) → MayWrite m.words w ws → IsShown m (words_of g) ever w x → IsShown m (words_of g) (ever ++ ws) (applied w ws) x
+    still_shown : (ever : List (ℕ × ℕ)) (w : List ℕ) (ws : List (ℕ × ℕ)) (x : ℕ × ℕ) → MayWrite m.words w ws
+        → IsShown m (words_of g) ever w x → IsShown m (words_of g) (ever ++ ws) (applied w ws) x
     still_shown ever w ws x may h = record {
       plain = still_plain ever ws x h.plain;
       inside = inside_after w ws x.0 may h.inside;
       there = let l = length-applied w ws in let t = h.there in omega arith;
       final = λ final. ⊎_elim
-          (λ (t : (y : ℕ) × Among ws (x.0, y)). absurd (true≢false (sym final ∙ ap m.words.is_final (sym (h.final final)) ∙ may.soft (x.0, t.0) t.1 h.inside)))
+          (λ (t : (y : ℕ) × Among ws (x.0, y)). absurd (true≢false
+          (sym final ∙ ap m.words.is_final (sym (h.final final)) ∙ may.soft (x.0, t.0) t.1 h.inside)))
           (λ (t : (y : ℕ) → Among ws (x.0, y) → ⊥). applied_else w ws x.0 t ∙ h.final final) (written ws x.0);
       top = still_between w ws x may h.top;
     }
@@ -118,13 +136,16 @@ module _ {E : Type 0} (m : Meaning E) where
       same i lt = get_or-set_other s.words (clock_at g) i n 0 (λ z. let a : clock_at g ≡ 1024 * g.pages + g.pages = refl in omega arith)
 
       -- in a page that the seat holds the store has the history's word
-      sure : (a : ℕ) → a < 1024 * g.pages → Inside m.words k.fold a → is_in (a / 1024) v.grip.held ≡ true → slice_index s.words a ≡ slice_index k.fold a
-      sure a range inside mine = ⊎_elim (λ t. t) (λ (t : Among v.grip.due (a, slice_index k.fold a)). absurd (subst (λ l. Among l (a, slice_index k.fold a)) c.may.idle t)) (holder_lags m g s k id v a c.at mine range inside)
+      sure : (a : ℕ) → a < 1024 * g.pages → Inside m.words k.fold a → is_in (a / 1024) v.grip.held ≡ true → slice_index s.words a
+          ≡ slice_index k.fold a
+      sure a range inside mine = ⊎_elim (λ t. t) (λ (t : Among v.grip.due (a, slice_index k.fold a)). absurd
+          (subst (λ l. Among l (a, slice_index k.fold a)) c.may.idle t)) (holder_lags m g s k id v a c.at mine range inside)
 
       could : CouldBe m.words g.pages v.grip.known k.fold
       could = (
         c.wide,
-        (λ y h inside. let f = k.views id v c.at in let r = f.known y h in let p = f.held (y.0 / 1024) r.0 in sym (sure y.0 (omega arith) inside r.0) ∙ r.1),
+        (λ y h inside. let f = k.views id v c.at in let r = f.known y h in let p = f.held (y.0 / 1024) r.0 in
+            sym (sure y.0 (omega arith) inside r.0) ∙ r.1),
       )
 
       ok : MayWrite m.words k.fold ws
@@ -137,7 +158,8 @@ module _ {E : Type 0} (m : Meaning E) where
       was_inside a t inside = ⊎_elim (λ h. h) (λ (h : (y : ℕ) × Among ws (a, y)). absurd (t h.0 h.1)) (ok.fills a inside)
 
       -- what was read stands in the history
-      read : (x : ℕ × ℕ) → Among (m.reads e) x → (slice_index k.fold x.0 ≡ x.1) × Among k.ever x × Inside m.words k.fold x.0 × (x.0 < length k.fold)
+      read : (x : ℕ × ℕ) → Among (m.reads e) x → (slice_index k.fold x.0 ≡ x.1) × Among k.ever x × Inside m.words k.fold x.0
+          × (x.0 < length k.fold)
       read x h = ⊎_elim
           (λ (t : Among v.grip.known x × IsUsed m.words v.grip.known x.0).
           let f = k.views id v c.at in
@@ -145,7 +167,9 @@ module _ {E : Type 0} (m : Meaning E) where
           let start : start_of x.0 ≡ start_of (start_of x.0) = omega arith in
           let inside : Inside m.words k.fold x.0 = ⊎_elim (λ (q : x.0 ≡ start_of x.0). inl q)
           (λ (q : (y : ℕ) × Among v.grip.known (start_of x.0, y) × (x.0 < m.words.top y)).
-          let top : m.words.top (slice_index k.fold (start_of x.0)) ≡ m.words.top q.0 = ap m.words.top (could.1 (start_of x.0, q.0) q.1 (inl start)) in let lt = q.2 in inr (omega arith)) t.1 in
+          let top : m.words.top (slice_index k.fold (start_of x.0))
+          ≡ m.words.top q.0 = ap m.words.top (could.1 (start_of x.0, q.0) q.1 (inl start)) in let lt = q.2 in inr
+          (omega arith)) t.1 in
           let eq = could.1 x t.0 inside in
           (eq, subst (λ (i : ℕ). Among k.ever (x.0, i)) eq (k.stood x.0 (omega arith) inside), inside, (let z = c.wide in omega arith)))
           (λ (t : Among (shown v.looks) x × (m.words.is_final x.1 ≡ true)).
@@ -160,7 +184,8 @@ module _ {E : Type 0} (m : Meaning E) where
         sound = c.may.sound;
         reads = λ x h. let r = read x h in (r.0, r.2, r.3);
         writes = ok;
-        cells = let p : g.pages ≡ length k.fold / 1024 = (let z = c.wide in omega arith) in subst (λ (i : ℕ). tops m.words i fold' ≤ tops m.words i k.fold + (m.cost e).cells) p (c.may.cells k.fold could);
+        cells = let p : g.pages ≡ length k.fold / 1024 = (let z = c.wide in omega arith) in subst
+            (λ (i : ℕ). tops m.words i fold' ≤ tops m.words i k.fold + (m.cost e).cells) p (c.may.cells k.fold could);
       }
 
       closed' : Laws m → Closed m.words (k.ever ++ ws) fold'
@@ -173,7 +198,8 @@ module _ {E : Type 0} (m : Meaning E) where
 
       stood' : (a : ℕ) → a < 1024 * g.pages → Inside m.words fold' a → Among (k.ever ++ ws) (a, slice_index fold' a)
       stood' a range h = ⊎_elim
-          (λ (t : (y : ℕ) × Among ws (a, y)). among_right k.ever ws (a, slice_index fold' a) (subst (λ (i : ℕ). Among ws (a, i)) (sym (here (a, t.0) t.1)) t.1))
+          (λ (t : (y : ℕ) × Among ws (a, y)). among_right k.ever ws (a, slice_index fold' a)
+          (subst (λ (i : ℕ). Among ws (a, i)) (sym (here (a, t.0) t.1)) t.1))
           (λ (t : (y : ℕ) → Among ws (a, y) → ⊥). among_left k.ever ws (a, slice_index fold' a)
           (subst (λ (i : ℕ). Among k.ever (a, i)) (sym (applied_else k.fold ws a t)) (k.stood a range (was_inside a t h)))) (written ws a)
 
@@ -187,7 +213,8 @@ module _ {E : Type 0} (m : Meaning E) where
                 let p : x.0 / 1024 < g.pages = (let z = c.wide in omega arith) in
                 let turn : 1024 * (x.0 / 1024) ≡ x.0 = omega arith in
                 let a : m.words.top (slice_index (words_of g) x.0) ≤ m.words.top (slice_index k.fold x.0)
-                = subst (λ (i : ℕ). m.words.top (slice_index (words_of g) i) ≤ m.words.top (slice_index k.fold i)) turn (tops_rose m g s k (x.0 / 1024) p) in
+                = subst (λ (i : ℕ). m.words.top (slice_index (words_of g) i) ≤ m.words.top (slice_index k.fold i)) turn
+                (tops_rose m g s k (x.0 / 1024) p) in
                 let b = ok.rises x.0 start in
                 let d : m.words.top (slice_index fold' x.0) ≡ m.words.top x.1 = ap m.words.top (here x t) in (omega arith, omega arith)),
           ))
@@ -203,7 +230,8 @@ module _ {E : Type 0} (m : Meaning E) where
           let keep : slice_index words' a ≡ slice_index s.words a = same a (omega arith) in
           let owed : Among ws (a, slice_index fold' a) = subst (λ (i : ℕ). Among ws (a, i)) (sym is) h in
           let seat_at : get_elem? (set s.views id view') id ≡ some view' = set_here s.views id view' (at_length s.views id v c.at) in
-          let owed' : Among view'.grip.due (a, slice_index fold' a) = subst (λ (i : ℕ). Among (m.writes e i) (a, slice_index fold' a)) c.number owed in
+          let owed' : Among view'.grip.due (a, slice_index fold' a) = subst
+          (λ (i : ℕ). Among (m.writes e i) (a, slice_index fold' a)) c.number owed in
           ⊎_elim
           (λ (inside : Inside m.words k.fold a).
           let eq : slice_index k.fold a ≡ slice_index words' a = sym (keep ∙ sure a range inside (c.may.held (a, y) h)) in
@@ -234,7 +262,8 @@ module _ {E : Type 0} (m : Meaning E) where
           (inside_or_not m.words k.fold a)
 
       -- elsewhere it lags where it did
-      else_lags : (a : ℕ) → a < 1024 * g.pages → ((y : ℕ) → Among ws (a, y) → ⊥) → Lags m (words_of g) k.ever k.fold s.views a (slice_index s.words a) → Lagging a
+      else_lags : (a : ℕ) → a < 1024 * g.pages → ((y : ℕ) → Among ws (a, y) → ⊥)
+          → Lags m (words_of g) k.ever k.fold s.views a (slice_index s.words a) → Lagging a
       else_lags a range t l =
           let keep : slice_index words' a ≡ slice_index s.words a = same a (omega arith) in
           let apart : l.id ≢ id = (λ one. let is : l.view ≡ v = some-injective l.view v (sym l.at ∙ ap (get_elem? s.views) one ∙ c.at) in
@@ -244,25 +273,32 @@ module _ {E : Type 0} (m : Meaning E) where
             at = set_else s.views id l.id view' apart ∙ l.at;
             due = subst (λ (i : ℕ). Among l.view.grip.due (a, i)) (sym (applied_else k.fold ws a t)) l.due;
             soft = ap m.words.is_final keep ∙ l.soft;
-            plain = subst (λ (i : ℕ). Plain m (k.ever ++ ws) (a, i)) (sym keep) (still_plain k.ever ws (a, slice_index s.words a) l.plain);
-            top = still_between k.fold ws (a, slice_index words' a) ok (subst (λ (i : ℕ). IsBetween m (words_of g) k.fold (a, i)) (sym keep) l.top);
+            plain = subst (λ (i : ℕ). Plain m (k.ever ++ ws) (a, i))
+                (sym keep) (still_plain k.ever ws (a, slice_index s.words a) l.plain);
+            top = still_between k.fold ws (a, slice_index words' a) ok
+                (subst (λ (i : ℕ). IsBetween m (words_of g) k.fold (a, i)) (sym keep) l.top);
           }
 
       store' : (a : ℕ) → a < 1024 * g.pages → Inside m.words fold' a → (slice_index words' a ≡ slice_index fold' a) ⊎ Lagging a
       store' a range inside = ⊎_elim
           (λ (t : (y : ℕ) × Among ws (a, y)). wrote a range t.0 t.1)
-          (λ (t : (y : ℕ) → Among ws (a, y) → ⊥). ⊎_elim (λ (q : slice_index s.words a ≡ slice_index k.fold a). inl (same a (omega arith) ∙ q ∙ sym (applied_else k.fold ws a t)))
-          (λ (l : Lags m (words_of g) k.ever k.fold s.views a (slice_index s.words a)). inr (else_lags a range t l)) (k.store a range (was_inside a t inside)))
+          (λ (t : (y : ℕ) → Among ws (a, y) → ⊥). ⊎_elim (λ (q : slice_index s.words a ≡ slice_index k.fold a). inl (same a
+          (omega arith) ∙ q ∙ sym (applied_else k.fold ws a t)))
+          (λ (l : Lags m (words_of g) k.ever k.fold s.views a (slice_index s.words a)). inr (else_lags a range t l))
+          (k.store a range (was_inside a t inside)))
           (written ws a)
 
       logged' : (x : Numbered E) → Among view'.entries x → IsLogged (k.log ++ e ∷ []) x × (x.number ≤ view'.front)
       logged' x h = ⊎_elim
-          (λ (t : Among v.entries x). let f = k.views id v c.at in let r = f.entries x t in let le = r.1 in let front = f.front in (still_logged k.log (e ∷ []) x r.0, (omega arith)))
+          (λ (t : Among v.entries x). let f = k.views id v c.at in let r = f.entries x t in let le = r.1 in let front = f.front in
+          (still_logged k.log (e ∷ []) x r.0, (omega arith)))
           (λ (t : Among (record { number = suc (length k.log); entry = e } ∷ []) x). last x t)
           (among_either v.entries (record { number = suc (length k.log); entry = e } ∷ []) x h)
         where
-          last : (x : Numbered E) → Among (record { number = suc (length k.log); entry = e } ∷ []) x → IsLogged (k.log ++ e ∷ []) x × (x.number ≤ suc (length k.log))
-          last x (inl is) = subst (λ (x : Numbered E). IsLogged (k.log ++ e ∷ []) x × (x.number ≤ suc (length k.log))) is ((length k.log, refl, at_last k.log e (length k.log) refl), (omega arith))
+          last : (x : Numbered E) → Among (record { number = suc (length k.log); entry = e } ∷ []) x → IsLogged (k.log ++ e ∷ []) x
+              × (x.number ≤ suc (length k.log))
+          last x (inl is) = subst (λ (x : Numbered E). IsLogged (k.log ++ e ∷ []) x
+              × (x.number ≤ suc (length k.log))) is ((length k.log, refl, at_last k.log e (length k.log) refl), (omega arith))
           last x (inr none_there) = absurd none_there
 
       mine' : IsTrueOf m g words' (k.log ++ e ∷ []) (k.ever ++ ws) fold' view'
@@ -276,14 +312,16 @@ module _ {E : Type 0} (m : Meaning E) where
         spent = λ none. absurd (let a = c.alive in omega arith);
       }
 
-      others' : (j : ℕ) (y : View E) → j ≢ id → get_elem? s.views j ≡ some y → IsTrueOf m g words' (k.log ++ e ∷ []) (k.ever ++ ws) fold' y
+      others' : (j : ℕ) (y : View E) → j ≢ id → get_elem? s.views j ≡ some y
+          → IsTrueOf m g words' (k.log ++ e ∷ []) (k.ever ++ ws) fold' y
       others' j y ne at = let f = k.views j y at in record {
         held = f.held;
         known = λ z h. let r = f.known z h in let p = f.held (z.0 / 1024) r.0 in (r.0, same z.0 (omega arith) ∙ r.1);
         due = λ z h. let r = f.due z h in (
           r.0,
           ⊎_elim
-              (λ (t : (x : ℕ) × Among ws (z.0, x)). absurd (ne (one_holder m g s k j id y v (z.0 / 1024) at c.at r.0 (c.may.held (z.0, t.0) t.1))))
+              (λ (t : (x : ℕ) × Among ws (z.0, x)). absurd (ne (one_holder m g s k j id y v (z.0 / 1024) at c.at r.0
+              (c.may.held (z.0, t.0) t.1))))
               (λ (t : (x : ℕ) → Among ws (z.0, x) → ⊥). applied_else k.fold ws z.0 t ∙ r.1) (written ws z.0),
         );
         shown = λ z h. still_shown k.ever k.fold ws z ok (f.shown z h);
@@ -297,13 +335,19 @@ module _ {E : Type 0} (m : Meaning E) where
           let t = total_set (λ (v : View E). times i (numbers_of v.entries)) s.views id v view' c.at in
           let was = k.numbers i in
           let one = times_snoc v.entries e (suc (length k.log)) i in
-          let l : length (k.log ++ e ∷ []) ≡ suc (length k.log) = (let l = length-append k.log (e ∷ []) in let o : length (e ∷ []) ≡ 1 = refl in omega arith) in
+          let l : length (k.log ++ e ∷ []) ≡ suc (length k.log) =
+          (let l = length-append k.log (e ∷ []) in let o : length (e ∷ []) ≡ 1 = refl in omega arith) in
           subst (λ (z : ℕ). Once z i (total (λ v. times i (numbers_of v.entries)) (set s.views id view'))) (sym l)
           (dite (ℕ_discrete i (suc (length k.log)))
           (λ y. let q = one.0 y in let z = was.1 (omega arith) in ((λ a b. omega arith), (λ a. omega arith), (λ a. omega arith)))
-          (λ y. let q = one.1 y in ((λ a b. let z = was.0 a (omega arith) in omega arith), (λ a. let z = was.1 (omega arith) in omega arith), (λ a. let z = was.2 a in omega arith))))
+          (λ y. let q = one.1 y in (
+            (λ a b. let z = was.0 a (omega arith) in omega arith),
+            (λ a. let z = was.1 (omega arith) in omega arith),
+            (λ a. let z = was.2 a in omega arith),
+          )))
 
-      budget' : (b : Charge) → total (λ e. price b (m.cost e)) (k.log ++ e ∷ []) + total (λ v. left b v.purse) (set s.views id view') ≡ granted b g
+      budget' : (b : Charge) → total (λ e. price b (m.cost e)) (k.log ++ e ∷ []) + total (λ v. left b v.purse) (set s.views id view')
+          ≡ granted b g
       budget' b =
           let t = total_set (λ (v : View E). left b v.purse) s.views id v view' c.at in
           let q = total_snoc (λ (e : E). price b (m.cost e)) k.log e in
@@ -327,11 +371,14 @@ module _ {E : Type 0} (m : Meaning E) where
         wide = k.wide;
         opens = k.opens;
         clock = get_or-set_same s.words (clock_at g) n 0 (let a : clock_at g ≡ 1024 * g.pages + g.pages = refl in omega arith) ∙ c.number
-            ∙ (let l = length-append k.log (e ∷ []) in let o : length (e ∷ []) ≡ 1 = refl in let r : suc (length k.log) ≡ length (k.log ++ e ∷ []) = omega arith in r);
+            ∙ (let l = length-append k.log (e ∷ []) in let o : length (e ∷ []) ≡ 1 = refl in let r : suc (length k.log)
+            ≡ length (k.log ++ e ∷ []) = omega arith in r);
         numbers = numbers';
         holders = λ p lt. let h = k.holders p lt in
-            let t : total (λ v. times p v.grip.held) (set s.views id view') ≡ total (λ v. times p v.grip.held) s.views = total_same (λ (v : View E). times p v.grip.held) s.views id v view' c.at refl in
-            let r : slice_index words' (page_at g p) ≡ slice_index s.words (page_at g p) = same (page_at g p) (let a : page_at g p ≡ 1024 * g.pages + p = refl in omega arith) in
+            let t : total (λ v. times p v.grip.held) (set s.views id view') ≡ total (λ v. times p v.grip.held) s.views = total_same
+            (λ (v : View E). times p v.grip.held) s.views id v view' c.at refl in
+            let r : slice_index words' (page_at g p) ≡ slice_index s.words (page_at g p) = same (page_at g p)
+            (let a : page_at g p ≡ 1024 * g.pages + p = refl in omega arith) in
             (r ∙ h.0 ∙ sym t, (let b = h.1 in omega arith));
         budget = budget';
         few = k.few;
@@ -340,8 +387,11 @@ module _ {E : Type 0} (m : Meaning E) where
         views = each_set (λ _ y. IsTrueOf m g words' (k.log ++ e ∷ []) (k.ever ++ ws) fold' y) s.views id view' mine' others';
       }
 
-    pub stamps : (slots id : ℕ) (me : Me Nothing (View E)) (e : E) → Laws m → 0 < me.0.purse.rights → Affords m me.0 e → ((n : ℕ) → n < 2 ^ 32 → MayStamp m g me.0 e n)
-        → Allows (Kept m g) slots id me (clock_at g) (λ n. (n + 1) % 2 ^ 64) (λ found after. (after ≡ (stamped m me.0 e (suc found), me.1)) × (found + 1 < 2 ^ 32) × (me.0.front ≤ found) × ((x : ℕ × ℕ) → Among after.0.grip.due x → x.0 < clock_at g) × (length after.0.grip.due ≤ clock_at g))
+    pub stamps : (slots id : ℕ) (me : Me Nothing (View E)) (e : E) → Laws m → 0 < me.0.purse.rights → Affords m me.0 e
+        → ((n : ℕ) → n < 2 ^ 32 → MayStamp m g me.0 e n)
+        → Allows (Kept m g) slots id me (clock_at g) (λ n. (n + 1) % 2 ^ 64)
+        (λ found after. (after ≡ (stamped m me.0 e (suc found), me.1)) × (found + 1 < 2 ^ 32) × (me.0.front ≤ found)
+        × ((x : ℕ × ℕ) → Among after.0.grip.due x → x.0 < clock_at g) × (length after.0.grip.due ≤ clock_at g))
     stamps slots id me e laws alive funds may s k homes at fits64 =
         let v = me.0 in
         let c = slice_index s.words (clock_at g) in
@@ -368,7 +418,8 @@ module _ {E : Type 0} (m : Meaning E) where
           wide = wide_fold m g s k;
         } in
         let done = stamped_kept s k id v e (suc c) step laws in
-        let there : (x : ℕ × ℕ) → Among (m.writes e (suc c)) x → x.0 < clock_at g = (λ x h. let r = (ok s k id v e (suc c) step).ranges x h in let z = wide_fold m g s k in
+        let there : (x : ℕ × ℕ) → Among (m.writes e (suc c)) x → x.0 < clock_at g =
+        (λ x h. let r = (ok s k id v e (suc c) step).ranges x h in let z = wide_fold m g s k in
         let a : clock_at g ≡ 1024 * g.pages + g.pages = refl in omega arith) in
         let few_writes = distinct_few (clock_at g) (m.writes e (suc c)) (ok s k id v e (suc c) step).distinct there in
         let next : (c + 1) % 2 ^ 64 ≡ suc c = mod-eq_of_lt (omega arith) ∙ omega arith in
@@ -376,12 +427,23 @@ module _ {E : Type 0} (m : Meaning E) where
           stamped m v e (suc c),
           keeps,
           tt,
-          subst (λ (i : ℕ). Kept m g record { words = set s.words (clock_at g) i; homes = s.homes; views = set s.views id (stamped m v e (suc c)) }) (sym next)
-              (subst (λ (u : View E). Kept m g record { words = set s.words (clock_at g) (suc c); homes = s.homes; views = set s.views id u }) view done),
+          subst (λ (i : ℕ). Kept m g record {
+            words = set s.words (clock_at g) i;
+            homes = s.homes;
+            views = set s.views id (stamped m v e (suc c));
+          }) (sym next)
+              (subst (λ (u : View E). Kept m g record {
+                words = set s.words (clock_at g) (suc c);
+                homes = s.homes;
+                views = set s.views id u;
+              }) view done),
           (refl, (omega arith), (omega arith), there, few_writes),
         )
 
-    pub stamps_at : (slots id i : ℕ) (me : Me Nothing (View E)) (e : E) (next : View E → ℕ → View E) → i ≡ clock_at g → next ≡ (λ v found. stamped m v e (suc found)) → Laws m → 0 < me.0.purse.rights → Affords m me.0 e
+    pub stamps_at : (slots id i : ℕ) (me : Me Nothing (View E)) (e : E) (next : View E → ℕ → View E) → i ≡ clock_at g → next ≡
+        (λ v found. stamped m v e (suc found)) → Laws m → 0 < me.0.purse.rights → Affords m me.0 e
         → ((n : ℕ) → n < 2 ^ 32 → MayStamp m g me.0 e n)
-        → Allows (Kept m g) slots id me i (λ n. (n + 1) % 2 ^ 64) (λ found after. (after ≡ (next me.0 found, me.1)) × (found + 1 < 2 ^ 32) × (me.0.front ≤ found) × ((x : ℕ × ℕ) → Among after.0.grip.due x → x.0 < i) × (length after.0.grip.due ≤ i))
+        → Allows (Kept m g) slots id me i (λ n. (n + 1) % 2 ^ 64)
+        (λ found after. (after ≡ (next me.0 found, me.1)) × (found + 1 < 2 ^ 32) × (me.0.front ≤ found)
+        × ((x : ℕ × ℕ) → Among after.0.grip.due x → x.0 < i) × (length after.0.grip.due ≤ i))
     stamps_at slots id i me e next same is laws alive funds may = rw (same, is) (stamps slots id me e laws alive funds may)

@@ -22,9 +22,11 @@ module _ {V : Type 0} (f : V → ℕ) where
   total_none (w ∷ ws) h = let a : f w ≡ 0 = h 0 w refl in let b = total_none ws (λ j u d. h (suc j) u d) in omega arith
 
   -- all the others are 0
-  pub total_alone : (vs : List V) (id : ℕ) (v : V) → get_elem? vs id ≡ some v → ((j : ℕ) (u : V) → j ≢ id → get_elem? vs j ≡ some u → f u ≡ 0) → total f vs ≡ f v
+  pub total_alone : (vs : List V) (id : ℕ) (v : V) → get_elem? vs id ≡ some v
+      → ((j : ℕ) (u : V) → j ≢ id → get_elem? vs j ≡ some u → f u ≡ 0) → total f vs ≡ f v
   total_alone [] id v e none_else = absurd (some-ne-none v (sym e))
-  total_alone (x ∷ xs) zero v e none_else = let h : f x ≡ f v = ap f (some-injective x v e) in let z = total_none xs (λ j u d. none_else (suc j) u (λ k. omega arith) d) in omega arith
+  total_alone (x ∷ xs) zero v e none_else = let h : f x ≡ f v = ap f (some-injective x v e) in let z = total_none xs
+      (λ j u d. none_else (suc j) u (λ k. omega arith) d) in omega arith
   total_alone (x ∷ xs) (suc id) v e none_else = let z : f x ≡ 0 = none_else 0 x (λ k. omega arith) refl in
       let h = total_alone xs id v e (λ j u ne d. none_else (suc j) u (λ k. ne (omega arith)) d) in omega arith
 
@@ -36,6 +38,8 @@ module _ {V : Type 0} (f : V → ℕ) where
   pub total_two : (vs : List V) (i j : ℕ) (v u : V) → j ≢ i → get_elem? vs i ≡ some v → get_elem? vs j ≡ some u → f v + f u ≤ total f vs
   total_two [] i j v u n e d = absurd (some-ne-none v (sym e))
   total_two (x ∷ xs) zero zero v u n e d = absurd (n refl)
-  total_two (x ∷ xs) zero (suc j) v u n e d = let h : f x ≡ f v = ap f (some-injective x v e) in let k = total_part xs j u d in omega arith
-  total_two (x ∷ xs) (suc i) zero v u n e d = let h : f x ≡ f u = ap f (some-injective x u d) in let k = total_part xs i v e in omega arith
+  total_two (x ∷ xs) zero (suc j) v u n e d = let h : f x ≡ f v = ap f (some-injective x v e) in let k = total_part xs j u d in
+      omega arith
+  total_two (x ∷ xs) (suc i) zero v u n e d = let h : f x ≡ f u = ap f (some-injective x u d) in let k = total_part xs i v e in
+      omega arith
   total_two (x ∷ xs) (suc i) (suc j) v u n e d = let h = total_two xs i j v u (λ q. n (ap suc q)) e d in omega arith

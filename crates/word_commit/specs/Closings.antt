@@ -12,7 +12,8 @@ use Rattle.word_commit.specs.Kept.{words_of, IsLogged}
 module _ {L : Type 0} where
   -- each entry stands at its number, counted from 1
   abbrev pub AreArranged : List ℕ → List L → List L → Type 0
-  AreArranged numbers old new = (length new ≡ length old) × ((j n : ℕ) (x : L) → get_elem? old j ≡ some x → get_elem? numbers j ≡ some (suc n) → get_elem? new n ≡ some x)
+  AreArranged numbers old new = (length new ≡ length old)
+      × ((j n : ℕ) (x : L) → get_elem? old j ≡ some x → get_elem? numbers j ≡ some (suc n) → get_elem? new n ≡ some x)
 
 module _ {E L : Type 0} (m : Meaning E) (logged : E → L) where
   -- The view v is of the only seat left; the store has these words, and its entries in order of number are this log.
@@ -27,4 +28,5 @@ module _ {E L : Type 0} (m : Meaning E) (logged : E → L) where
     pub log_is : map logged history ≡ log
     -- and the words are those after it wherever these are inside
     pub size : length words ≡ 1024 * g.pages
-    pub words_are : (a : ℕ) → a < 1024 * g.pages → Inside m.words (world m 1 (words_of g) history) a → slice_index words a ≡ slice_index (world m 1 (words_of g) history) a
+    pub words_are : (a : ℕ) → a < 1024 * g.pages → Inside m.words (world m 1 (words_of g) history) a → slice_index words a
+        ≡ slice_index (world m 1 (words_of g) history) a

@@ -1,5 +1,5 @@
 -- What a seat owes before it writes.
-use Rattle.std.specs.Prelude.{◌≡◌, ◌⊎◌, ℕ, ◌+◌, ◌*◌, ◌/◌, ◌^◌, ◌<◌, ◌≤◌, List, [], length, true, false, slice_index}
+use Rattle.std.specs.Prelude.{◌≡◌, ◌⊎◌, ℕ, ◌+◌, ◌*◌, ◌/◌, ◌<◌, ◌≤◌, List, [], length, true, false, slice_index}
 use Rattle.word_commit.specs.declared.quota.Quota.{Quota}
 use Rattle.word_commit.specs.declared.view.View.{View}
 use Rattle.word_commit.specs.declared.view.Given.{Given}
@@ -40,11 +40,14 @@ module _ {E : Type 0} (m : Meaning E) where
     pub idle : v.grip.due ≡ []
     pub sound : m.sound e
     -- each word read is known and in use, or is a final word that was loaded at a known address
-    pub reads : (x : ℕ × ℕ) → Among (m.reads e) x → (Among v.grip.known x × IsUsed m.words v.grip.known x.0) ⊎ (Among (shown v.looks) x × (m.words.is_final x.1 ≡ true))
+    pub reads : (x : ℕ × ℕ) → Among (m.reads e) x → (Among v.grip.known x × IsUsed m.words v.grip.known x.0)
+        ⊎ (Among (shown v.looks) x × (m.words.is_final x.1 ≡ true))
     -- all that it writes lies in held pages
     pub held : (x : ℕ × ℕ) → Among (m.writes e n) x → is_in (x.0 / 1024) v.grip.held ≡ true
     -- over whatever the history may be by now its writes are lawful, and raise the tops by no more than its cells
     pub writes : (w : List ℕ) → CouldBe m.words g.pages v.grip.known w → MayWrite m.words w (m.writes e n)
-    pub cells : (w : List ℕ) → CouldBe m.words g.pages v.grip.known w → tops m.words g.pages (applied w (m.writes e n)) ≤ tops m.words g.pages w + (m.cost e).cells
+    pub cells : (w : List ℕ) → CouldBe m.words g.pages v.grip.known w
+        → tops m.words g.pages (applied w (m.writes e n)) ≤ tops m.words g.pages w + (m.cost e).cells
     -- each word that comes inside by it was primed
-    pub primed : (x : ℕ × ℕ) → Among (m.writes e n) x → (w : List ℕ) → CouldBe m.words g.pages v.grip.known w → (Inside m.words w x.0 → ⊥) → IsPrimed m.words v.grip.known x
+    pub primed : (x : ℕ × ℕ) → Among (m.writes e n) x → (w : List ℕ) → CouldBe m.words g.pages v.grip.known w
+        → (Inside m.words w x.0 → ⊥) → IsPrimed m.words v.grip.known x

@@ -1,5 +1,6 @@
 -- Histories of words: entries that write one after another, each by its rules.
-use Rattle.std.specs.Prelude.{◌≡◌, ◌⊎◌, ℕ, zero, suc, ◌+◌, ◌*◌, ◌/◌, ◌^◌, ◌<◌, ◌≤◌, List, [], ◌∷◌, ◌++◌, length, true, false, slice_index, slice_set}
+use Rattle.std.specs.Prelude.{◌≡◌, ◌⊎◌, ℕ, zero, suc, ◌+◌, ◌*◌, ◌/◌, ◌^◌, ◌<◌, ◌≤◌, List, [], ◌∷◌, ◌++◌, length, true, false, slice_index}
+use Rattle.std.specs.Prelude.{slice_set}
 use Rattle.word_commit.specs.Meanings.{Among, Wording, Meaning}
 
 -- the address of the first word of an address's page
@@ -28,7 +29,8 @@ module _ (m : Wording) where
 
   -- whatever some of these words refer to together is inside
   abbrev pub Closed : List (ℕ × ℕ) → List ℕ → Type 0
-  Closed ever w = (l : List (ℕ × ℕ)) (a : ℕ) → ((x : ℕ × ℕ) → Among l x → Among ever x) → m.refers l a ≡ true → Inside w a × (a < length w)
+  Closed ever w = (l : List (ℕ × ℕ)) (a : ℕ) → ((x : ℕ × ℕ) → Among l x → Among ever x) → m.refers l a ≡ true → Inside w a
+      × (a < length w)
 
   -- it adds nothing to what any list refers to
   abbrev pub AddsNothing : ℕ × ℕ → Type 0
@@ -61,7 +63,8 @@ pub record Laws {E : Type 0} (m : Meaning E) : Type 0 where
   -- a longer list refers to no fewer addresses
   pub more : (l r : List (ℕ × ℕ)) (x : ℕ × ℕ) (a : ℕ) → m.words.refers (l ++ r) a ≡ true → m.words.refers (l ++ x ∷ r) a ≡ true
   -- after a sound entry too, whatever words refer to is inside
-  pub keeps : (e : E) (n : ℕ) (ever : List (ℕ × ℕ)) (w : List ℕ) → n < 2 ^ 32 → m.sound e → Finds m.words (m.reads e) ever w → MayWrite m.words w (m.writes e n)
+  pub keeps : (e : E) (n : ℕ) (ever : List (ℕ × ℕ)) (w : List ℕ) → n < 2 ^ 32 → m.sound e → Finds m.words (m.reads e) ever w
+      → MayWrite m.words w (m.writes e n)
       → Closed m.words (ever ++ m.writes e n) (applied w (m.writes e n))
 
 module _ {E : Type 0} (m : Meaning E) where

@@ -46,7 +46,8 @@ module _ {E : Type 0} (m : Meaning E) where
 
   -- the top that a page's first word says is neither below the one given nor above the history's
   abbrev pub IsBetween : List ℕ → List ℕ → ℕ × ℕ → Type 0
-  IsBetween first w x = x.0 ≡ start_of x.0 → (m.words.top (slice_index first x.0) ≤ m.words.top x.1) × (m.words.top x.1 ≤ m.words.top (slice_index w x.0))
+  IsBetween first w x = x.0 ≡ start_of x.0 → (m.words.top (slice_index first x.0) ≤ m.words.top x.1)
+      × (m.words.top x.1 ≤ m.words.top (slice_index w x.0))
 
   -- A word that was loaded at a known address.
   pub record IsShown (first : List ℕ) (ever : List (ℕ × ℕ)) (w : List ℕ) (x : ℕ × ℕ) : Type 0 where
@@ -105,7 +106,8 @@ module _ {E : Type 0} (m : Meaning E) where
     pub clock : slice_index s.words (clock_at g) ≡ length log
     pub numbers : (n : ℕ) → Once (length log) n (total (λ v. times n (numbers_of v.entries)) s.views)
     -- a page's word counts its holders, and there are not two
-    pub holders : (p : ℕ) → p < g.pages → (slice_index s.words (page_at g p) ≡ total (λ v. times p v.grip.held) s.views) × (slice_index s.words (page_at g p) ≤ 1)
+    pub holders : (p : ℕ) → p < g.pages → (slice_index s.words (page_at g p) ≡ total (λ v. times p v.grip.held) s.views)
+        × (slice_index s.words (page_at g p) ≤ 1)
     -- what the entries cost, and what the seats have left, is what was given; so numbers fit 32 bits
     pub budget : (c : Charge) → total (λ e. price c (m.cost e)) log + total (λ v. left c v.purse) s.views ≡ granted c g
     pub few : granted Moves g + granted Extra g < 2 ^ 32

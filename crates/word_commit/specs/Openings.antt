@@ -16,4 +16,5 @@ module _ (m : Wording) where
     pub above : (p : ℕ) → 1024 * p < length w → 1024 * p < m.top (slice_index w (1024 * p))
     pub within : (p : ℕ) → 1024 * p < length w → m.top (slice_index w (1024 * p)) ≤ 1024 * p + 1024
     -- words inside refer together to nothing but addresses inside
-    pub closed : (l : List (ℕ × ℕ)) (a : ℕ) → ((x : ℕ × ℕ) → Among l x → StandsInside w x) → m.refers l a ≡ true → Inside m w a × (a < length w)
+    pub closed : (l : List (ℕ × ℕ)) (a : ℕ) → ((x : ℕ × ℕ) → Among l x → StandsInside w x) → m.refers l a ≡ true → Inside m w a
+        × (a < length w)

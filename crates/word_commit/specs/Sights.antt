@@ -26,7 +26,8 @@ module _ {E : Type 0} (m : Meaning E) (g : Given) where
     pub entries : (x : Numbered E) → Among v.entries x → IsLogged log x × (x.number ≤ v.front)
     pub front : v.front ≤ length log
     -- the tops last shown are above those given by no more cells than are spent at most
-    pub cells : shown_tops m.words g.pages (words_of g) (words_shown v.looks) + v.purse.cells ≤ tops m.words g.pages (words_of g) + g.quota.cells
+    pub cells : shown_tops m.words g.pages (words_of g) (words_shown v.looks) + v.purse.cells ≤ tops m.words g.pages (words_of g) +
+        g.quota.cells
     -- a seat that is the only one left has all entries
     pub whole : v.purse.rights ≡ all_rights → (n : ℕ) → Once (length log) n (times n (numbers_of v.entries))
 

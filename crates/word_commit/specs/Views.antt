@@ -1,9 +1,9 @@
 -- What seats know of a store, and how each step changes it.
-use Rattle.std.specs.Prelude.{◌≡◌, ℕ, zero, suc, ◌+◌, ◌-◌, ◌*◌, ◌/◌, max, ◌==◌, List, [], ◌∷◌, ◌++◌, map, Bool, true, false, if◌then◌else◌, nat_lt, slice_index}
+use Rattle.std.specs.Prelude.{ℕ, zero, suc, ◌+◌, ◌-◌, ◌*◌, ◌/◌, max, ◌==◌, List, [], ◌∷◌, ◌++◌, Bool, true, false}
+use Rattle.std.specs.Prelude.{if◌then◌else◌, nat_lt, slice_index}
 use Rattle.word_commit.specs.declared.view.View.{View}
 use Rattle.word_commit.specs.declared.view.Grip.{Grip}
 use Rattle.word_commit.specs.declared.view.Purse.{Purse}
-use Rattle.word_commit.specs.declared.view.Numbered.{Numbered}
 use Rattle.word_commit.specs.declared.view.Given.{Given}
 use Rattle.word_commit.specs.declared.view.Look.{Look}
 use Rattle.word_commit.specs.declared.view.Look.TheVariants.{Cell, Page, Clock}
@@ -106,7 +106,13 @@ gripped g a x = if is_in (a / 1024) g.held then (record g { known = (a, x) ∷ g
 
 -- what is left after an entry of this cost
 abbrev pub paid : Purse → Quota → Purse
-paid p q = record { commits = p.commits - q.commits; moves = p.moves - q.moves; cells = p.cells - q.cells; extra = p.extra - price Extra q; rights = p.rights }
+paid p q = record {
+  commits = p.commits - q.commits;
+  moves = p.moves - q.moves;
+  cells = p.cells - q.cells;
+  extra = p.extra - price Extra q;
+  rights = p.rights;
+}
 
 module _ {E : Type 0} where
   -- the view of the first seat
@@ -121,7 +127,10 @@ module _ {E : Type 0} where
 
   -- a load found this word
   abbrev pub loaded : Meaning E → View E → ℕ → ℕ → View E
-  loaded m v a x = record v { looks = Cell a x (is_known m.words (shown v.looks) a) (is_in (a / 1024) v.grip.held) ∷ v.looks; grip = gripped v.grip a x }
+  loaded m v a x = record v {
+    looks = Cell a x (is_known m.words (shown v.looks) a) (is_in (a / 1024) v.grip.held) ∷ v.looks;
+    grip = gripped v.grip a x;
+  }
 
   -- a take found this word in the page's place
   abbrev pub took : View E → ℕ → ℕ → View E
@@ -150,11 +159,24 @@ module _ {E : Type 0} where
 
   -- an entry got this number
   abbrev pub stamped : Meaning E → View E → E → ℕ → View E
-  stamped m v e n = record v { entries = v.entries ++ record { number = n; entry = e } ∷ []; front = n; grip = record v.grip { due = m.writes e n }; purse = paid v.purse (m.cost e) }
+  stamped m v e n = record v {
+    entries = v.entries ++ record { number = n; entry = e } ∷ [];
+    front = n;
+    grip = record v.grip { due = m.writes e n };
+    purse = paid v.purse (m.cost e);
+  }
 
   -- what is left of a view of which a seat was shared with this quota
   abbrev pub shared : View E → Quota → View E
-  shared v q = record v { purse = record { commits = v.purse.commits - q.commits; moves = v.purse.moves - q.moves; cells = v.purse.cells - q.cells; extra = v.purse.extra; rights = v.purse.rights - 1 } }
+  shared v q = record v {
+    purse = record {
+      commits = v.purse.commits - q.commits;
+      moves = v.purse.moves - q.moves;
+      cells = v.purse.cells - q.cells;
+      extra = v.purse.extra;
+      rights = v.purse.rights - 1;
+    };
+  }
 
   -- the view of that seat
   abbrev pub part : View E → Quota → View E
@@ -182,4 +204,10 @@ module _ {E : Type 0} where
 
   -- what is left of the other
   abbrev pub spent : View E
-  spent = record { entries = []; front = 0; looks = []; grip = record { held = []; known = []; due = [] }; purse = record { commits = 0; moves = 0; cells = 0; extra = 0; rights = 0 } }
+  spent = record {
+    entries = [];
+    front = 0;
+    looks = [];
+    grip = record { held = []; known = []; due = [] };
+    purse = record { commits = 0; moves = 0; cells = 0; extra = 0; rights = 0 };
+  }

@@ -11,7 +11,8 @@ use std::marker::Brand;
 /// Two quotas together.
 fn more(funds: Quota, other: Quota) -> Quota
     requires { (funds.commits + other.commits < 2 ^ 32) × (funds.moves + other.moves < 2 ^ 32) × (funds.cells + other.cells < 2 ^ 32) }
-    ensures { (result.commits ≡ funds.commits + other.commits) × (result.moves ≡ funds.moves + other.moves) × (result.cells ≡ funds.cells + other.cells) }
+    ensures { (result.commits ≡ funds.commits + other.commits) × (result.moves ≡ funds.moves + other.moves)
+        × (result.cells ≡ funds.cells + other.cells) }
 {
     Quota {
         commits: funds.commits + other.commits,
@@ -25,7 +26,8 @@ impl<F: Fits> Store<F> {
     fn audit(&self, token: &mut Token<F::Entry>)
         requires { token.old.table_id ≡ self.now.table.shared.table_id }
         ensures token { (token.new.table_id ≡ token.old.table_id) × (token.new.me ≡ token.old.me) }
-        ensures small { (token.new.me.0.purse.commits < 2 ^ 32) × (token.new.me.0.purse.moves < 2 ^ 32) × (token.new.me.0.purse.cells < 2 ^ 32) }
+        ensures small { (token.new.me.0.purse.commits < 2 ^ 32) × (token.new.me.0.purse.moves < 2 ^ 32)
+            × (token.new.me.0.purse.cells < 2 ^ 32) }
     {
         self.table.shared.load::<Brand>(token, 0);
     }

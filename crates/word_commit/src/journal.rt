@@ -23,11 +23,13 @@ impl<L> Journal<L> {
 
     /// Appends an entry, for which there is room.
     pub(crate) fn push(&mut self, number: u32, entry: L)
-        requires room { (vec_len self.old.entries < vec_capacity self.old.entries) × (vec_len self.old.entries < vec_capacity self.old.numbers) }
+        requires room { (vec_len self.old.entries < vec_capacity self.old.entries)
+            × (vec_len self.old.entries < vec_capacity self.old.numbers) }
         ensures entries { self.new.entries.items ≡ self.old.entries.items ++ entry ∷ [] }
         ensures numbers { self.new.numbers.items ≡ self.old.numbers.items ++ number ∷ [] }
         ensures len { vec_len self.new.entries ≡ vec_len self.old.entries + 1 }
-        ensures room { (vec_capacity self.new.entries ≡ vec_capacity self.old.entries) × (vec_capacity self.new.numbers ≡ vec_capacity self.old.numbers) }
+        ensures room { (vec_capacity self.new.entries ≡ vec_capacity self.old.entries)
+            × (vec_capacity self.new.numbers ≡ vec_capacity self.old.numbers) }
     {
         self.numbers.push_reserved(number);
         self.entries.push_reserved(entry);
@@ -35,11 +37,13 @@ impl<L> Journal<L> {
 
     /// Takes in the entries of another journal, for which there is room.
     pub(crate) fn append(&mut self, other: Journal<L>)
-        requires room { (vec_len self.old.entries + vec_len other.entries ≤ vec_capacity self.old.entries) × (vec_len self.old.entries + vec_len other.entries ≤ vec_capacity self.old.numbers) }
+        requires room { (vec_len self.old.entries + vec_len other.entries ≤ vec_capacity self.old.entries)
+            × (vec_len self.old.entries + vec_len other.entries ≤ vec_capacity self.old.numbers) }
         ensures entries { self.new.entries.items ≡ self.old.entries.items ++ other.entries.items }
         ensures numbers { self.new.numbers.items ≡ self.old.numbers.items ++ other.numbers.items }
         ensures len { vec_len self.new.entries ≡ vec_len self.old.entries + vec_len other.entries }
-        ensures room { (vec_capacity self.old.entries ≤ vec_capacity self.new.entries) × (vec_capacity self.old.numbers ≤ vec_capacity self.new.numbers) }
+        ensures room { (vec_capacity self.old.entries ≤ vec_capacity self.new.entries)
+            × (vec_capacity self.old.numbers ≤ vec_capacity self.new.numbers) }
     {
         let Journal { entries, numbers } = other;
         move_all(&mut self.entries, entries);

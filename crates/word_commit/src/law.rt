@@ -37,7 +37,8 @@ pub(crate) struct Turned<N> {
 }
 
 impl<E, N: Turning<E>> Play<Nothing, View<E>> for Turned<N> {
-    ghost then = { λ step me found after. (after ≡ (N.next me.0 found, me.1)) × (found + 1 < 2 ^ 32) × (me.0.front ≤ found) × ((x : ℕ × ℕ) → Among after.0.grip.due x → x.0 < step.word) × (length after.0.grip.due ≤ step.word) };
+    ghost then = { λ step me found after. (after ≡ (N.next me.0 found, me.1)) × (found + 1 < 2 ^ 32) × (me.0.front ≤ found)
+        × ((x : ℕ × ℕ) → Among after.0.grip.due x → x.0 < step.word) × (length after.0.grip.due ≤ step.word) };
 }
 
 /// Names the quota of a seat that is shared.

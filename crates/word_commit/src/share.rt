@@ -46,7 +46,8 @@ impl<F: Fits> Store<F> {
         ensures views { MatchShared result
             (λ a b. (view_of a ≡ shared (view_of seat) quota) × (view_of b ≡ part (view_of seat) quota))
             (λ a. view_of a ≡ view_of seat) }
-        ensures spare { MatchShared result (λ a b. (spare_of a ≡ spare_of seat) × (spare_of b ≡ quota.moves)) (λ a. spare_of a ≡ spare_of seat) }
+        ensures spare { MatchShared result (λ a b. (spare_of a ≡ spare_of seat) × (spare_of b ≡ quota.moves))
+            (λ a. spare_of a ≡ spare_of seat) }
     {
         let spare = quota.moves as usize;
         let Ok(journal) = Journal::with_room(alloc, spare) else {

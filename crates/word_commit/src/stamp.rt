@@ -14,7 +14,8 @@ use std::marker::Brand;
 /// What is left of a quota after a cost.
 pub(crate) fn less(funds: Quota, cost: Quota) -> Quota
     requires { (cost.commits ≤ funds.commits) × (cost.moves ≤ funds.moves) × (cost.cells ≤ funds.cells) }
-    ensures { (result.commits ≡ funds.commits - cost.commits) × (result.moves ≡ funds.moves - cost.moves) × (result.cells ≡ funds.cells - cost.cells) }
+    ensures { (result.commits ≡ funds.commits - cost.commits) × (result.moves ≡ funds.moves - cost.moves)
+        × (result.cells ≡ funds.cells - cost.cells) }
 {
     Quota {
         commits: funds.commits - cost.commits,
@@ -27,7 +28,8 @@ impl<F: Fits> Seat<F> {
     /// The entry of which nothing is left to publish goes into the journal.
     pub(crate) fn settle(&mut self)
         requires { self.old.token.me.0.grip.due ≡ [] }
-        ensures token { (self.new.token.table_id ≡ self.old.token.table_id) × (self.new.token.id ≡ self.old.token.id) × (self.new.token.me ≡ self.old.token.me) }
+        ensures token { (self.new.token.table_id ≡ self.old.token.table_id) × (self.new.token.id ≡ self.old.token.id)
+            × (self.new.token.me ≡ self.old.token.me) }
         ensures rest { (self.new.pending ≡ None) × (self.new.spare ≡ self.old.spare) × (self.new.funds ≡ self.old.funds) }
     {
         if let Some(Numbered { number, entry }) = self.pending.take() {
@@ -43,7 +45,8 @@ impl<F: Fits> Store<F> {
         requires alive { 0 < token.old.me.0.purse.rights }
         requires affords { Affords F.means token.old.me.0 entry.now }
         requires may { (n : ℕ) → n < 2 ^ 32 → MayStamp F.means self.now.table.shared.key token.old.me.0 entry.now n }
-        ensures token { (token.new.table_id ≡ token.old.table_id) × (token.new.me ≡ (stamped F.means token.old.me.0 entry.now (suc result), token.old.me.1)) }
+        ensures token { (token.new.table_id ≡ token.old.table_id)
+            × (token.new.me ≡ (stamped F.means token.old.me.0 entry.now (suc result), token.old.me.1)) }
         ensures number { (result + 1 < 2 ^ 32) × (token.old.me.0.front ≤ result) }
         ensures there { (x : ℕ × ℕ) → Among token.new.me.0.grip.due x → x.0 < token.new.table_id.words }
         ensures few { length token.new.me.0.grip.due < token.new.table_id.words }

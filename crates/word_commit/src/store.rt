@@ -1,4 +1,5 @@
-ghost use Rattle.std.specs.Prelude.{◌≡◌, ◌+◌, ◌*◌, ◌/◌, ◌<◌, ◌≤◌, ◌^◌, ℕ, [], ◌∷◌, ◌++◌, map, length, vec_len, vec_capacity, slice_index, IfOk};
+ghost use Rattle.std.specs.Prelude.{◌≡◌, ◌+◌, ◌*◌, ◌/◌, ◌<◌, ◌≤◌, ◌^◌, ℕ, [], ◌∷◌, ◌++◌, map, length, vec_len, vec_capacity, slice_index};
+ghost use Rattle.std.specs.Prelude.{IfOk};
 ghost use Rattle.word_commit.specs.Meanings.{Among};
 ghost use Rattle.word_commit.specs.Kept.{words_of, numbers_of};
 ghost use Rattle.word_commit.specs.Views.{first_view};
@@ -50,7 +51,8 @@ pub struct Seat<F: Fits> {
     ghost few: { length token.me.0.grip.due < token.table_id.words },
     ghost kept: { kept_of F.logged token.me.0.entries ≡ journal.entries.items ++ kept_of F.logged (pending_of pending) },
     ghost numbers: { numbers_of token.me.0.entries ≡ journal.numbers.items ++ numbers_of (pending_of pending) },
-    ghost room: { (vec_len journal.entries + length (pending_of pending) + spare ≤ vec_capacity journal.entries) × (vec_len journal.entries + length (pending_of pending) + spare ≤ vec_capacity journal.numbers) },
+    ghost room: { (vec_len journal.entries + length (pending_of pending) + spare ≤ vec_capacity journal.entries)
+        × (vec_len journal.entries + length (pending_of pending) + spare ≤ vec_capacity journal.numbers) },
 }
 
 /// The words, and after them a zero for each page and one for the clock.
@@ -80,7 +82,8 @@ impl<F: Fits> Store<F> {
     ) -> Result<(Store<F>, Seat<F>), NoMemory>
         requires words { MayOpen F.means.words words.items }
         requires few { quota.moves + extra < 2 ^ 32 }
-        ensures given { IfOk result (λ r. (words_of (given_of r.0) ≡ words.items) × ((given_of r.0).pages ≡ vec_len words / 1024) × ((given_of r.0).quota ≡ quota) × ((given_of r.0).extra ≡ extra)) }
+        ensures given { IfOk result (λ r. (words_of (given_of r.0) ≡ words.items) × ((given_of r.0).pages ≡ vec_len words / 1024)
+            × ((given_of r.0).quota ≡ quota) × ((given_of r.0).extra ≡ extra)) }
         ensures seat { IfOk result (λ r. IsSeatOf r.0 r.1) }
         ensures view { IfOk result (λ r. view_of r.1 ≡ first_view (given_of r.0)) }
         ensures spare { IfOk result (λ r. spare_of r.1 ≡ quota.moves + extra) }

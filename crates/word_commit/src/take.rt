@@ -15,7 +15,8 @@ impl<F: Fits> Store<F> {
         requires page { page < (given_of self.now).pages }
         requires other { is_in page (view_of seat.old).grip.held ≡ false }
         ensures seat { IsSeatOf self.now seat.new × (spare_of seat.new ≡ spare_of seat.old) }
-        ensures view { MatchTaken result (view_of seat.new ≡ took (view_of seat.old) page 0) (view_of seat.new ≡ took (view_of seat.old) page 1) }
+        ensures view { MatchTaken result (view_of seat.new ≡ took (view_of seat.old) page 0)
+            (view_of seat.new ≡ took (view_of seat.old) page 1) }
         ensures alone { (view_of seat.old).purse.rights ≡ all_rights → result ≡ Taken.Got }
     {
         let word = PAGE * self.pages as usize + page as usize;

@@ -1,4 +1,4 @@
-use Rattle.std.proofs.Common.{arith, ℕ, ◌∙◌, ◌*◌, ◌+◌, ap}
+use Rattle.std.proofs.Common.{arith, ◌∙◌, ◌*◌, ◌+◌}
 use Rattle.word_commit.specs.Shows.{given_of, view_of}
 use Rattle.store_tests.proofs.Moves.{Purse, may_move}
 use Rattle.store_tests.proofs.transfers.stamp_coin.Goals as goal

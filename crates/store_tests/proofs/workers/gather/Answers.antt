@@ -1,4 +1,4 @@
-use Rattle.std.proofs.Common.{arith, rules, vec_len}
+use Rattle.std.proofs.Common.{arith, vec_len}
 use Rattle.std.proofs.lemmas.Grind.{common_steps}
 use Rattle.store_tests.proofs.Moves.{one_more}
 use Rattle.store_tests.proofs.workers.gather.Goals as goal

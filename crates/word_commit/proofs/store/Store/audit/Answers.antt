@@ -1,6 +1,6 @@
-use Rattle.std.proofs.Common.{arith, ℕ, ◌≤◌, ◌<◌, ◌+◌, ◌^◌, List, sym, subst}
+use Rattle.std.proofs.Common.{arith, ℕ, ◌<◌, ◌^◌, List, sym, subst}
 use Rattle.word_commit.specs.declared.view.View.{View}
-use Rattle.word_commit.specs.Views.{Commits, Moves, Cells, left, granted}
+use Rattle.word_commit.specs.Views.{Commits, Moves, Cells}
 use Rattle.word_commit.proofs.Shares.{audits}
 use Rattle.word_commit.proofs.store.Store.audit.Goals as goal
 
@@ -23,5 +23,7 @@ returns-clause-small g c =
     let l0 = limits.0 in
     let l1 = limits.1 in
     let v = c.args.token.now.me.0 in
-    let small : (v.purse.commits < 2 ^ 32) × (v.purse.moves < 2 ^ 32) × (v.purse.cells < 2 ^ 32) = (omega arith, omega arith, omega arith) in
-    subst (λ (x : View g.row.F-Entry.Denot × List (ℕ × _)). (x.0.purse.commits < 2 ^ 32) × (x.0.purse.moves < 2 ^ 32) × (x.0.purse.cells < 2 ^ 32)) (sym told.0) small
+    let small : (v.purse.commits < 2 ^ 32) × (v.purse.moves < 2 ^ 32) × (v.purse.cells < 2 ^ 32) =
+    (omega arith, omega arith, omega arith) in
+    subst (λ (x : View g.row.F-Entry.Denot × List (ℕ × _)). (x.0.purse.commits < 2 ^ 32) × (x.0.purse.moves < 2 ^ 32)
+    × (x.0.purse.cells < 2 ^ 32)) (sym told.0) small

@@ -1,4 +1,4 @@
-use Rattle.std.proofs.Common.{arith, ◌+◌, ◌*◌, ◌-◌, ◌≡◌}
+use Rattle.std.proofs.Common.{arith, ◌+◌, ◌*◌, ◌-◌}
 use Rattle.word_commit.proofs.Takes.{gives_at}
 use Rattle.word_commit.proofs.store.Store.give.Goals as goal
 

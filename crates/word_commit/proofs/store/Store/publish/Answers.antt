@@ -1,4 +1,4 @@
-use Rattle.std.proofs.Common.{arith, ℕ, zero, List, [], ◌≡◌, ◌<◌, ap, sym, subst, ◌∙◌, length}
+use Rattle.std.proofs.Common.{arith, ℕ, List, [], ◌≡◌, ◌<◌, ap, sym, subst, ◌∙◌, length}
 use Rattle.word_commit.specs.Meanings.{Among}
 use Rattle.word_commit.specs.Seats.{Has}
 use Rattle.word_commit.specs.Views.{all_published}
@@ -24,11 +24,17 @@ invariant_of-seat g c =
       rich = subst (λ (p : Purse). Has p s.funds) (sym purse) s.rich;
       due = due_none g.F.Fits.means t.me.0.grip.due c.take.new.self none_left c.take.ensures.after;
       there = subst (λ (l : List (ℕ × ℕ)). (x : ℕ × ℕ) → Among l x → x.0 < t.table_id.words) (sym none_left) (λ x h. absurd h);
-      few = (let z : length t.me.0.grip.due ≡ 0 = ap length none_left in let w = ap (λ i. i.words) c.write_all.ensures.token in let f = s.few in omega arith);
-      kept = kept_pushed g.F.Fits.logged v.entries t.me.0.entries s.journal.entries.items c.push.new.self.entries.items s.pending c.take.new.self c.in-Some.field-0 c.into_logged.result entries s.kept old c.push.ensures.entries c.into_logged.ensures c.take.ensures.after;
-      numbers = numbers_pushed v.entries t.me.0.entries s.journal.numbers.items c.push.new.self.numbers.items s.pending c.take.new.self c.in-Some.field-0 entries s.numbers old c.push.ensures.numbers c.take.ensures.after;
+      few = (let z : length t.me.0.grip.due ≡ 0 = ap length none_left in let w = ap (λ i. i.words) c.write_all.ensures.token in
+          let f = s.few in omega arith);
+      kept = kept_pushed g.F.Fits.logged v.entries t.me.0.entries s.journal.entries.items c.push.new.self.entries.items s.pending
+          c.take.new.self c.in-Some.field-0 c.into_logged.result entries s.kept old c.push.ensures.entries c.into_logged.ensures
+          c.take.ensures.after;
+      numbers = numbers_pushed v.entries t.me.0.entries s.journal.numbers.items c.push.new.self.numbers.items s.pending c.take.new.self
+          c.in-Some.field-0 entries s.numbers old c.push.ensures.numbers c.take.ensures.after;
       room = (
-        room_pushed s.pending c.take.new.self c.in-Some.field-0 _ _ s.spare _ _ old c.take.ensures.after c.push.ensures.len c.push.ensures.room.0 s.room.0,
-        room_pushed s.pending c.take.new.self c.in-Some.field-0 _ _ s.spare _ _ old c.take.ensures.after c.push.ensures.len c.push.ensures.room.1 s.room.1,
+        room_pushed s.pending c.take.new.self c.in-Some.field-0 _ _ s.spare _ _ old c.take.ensures.after c.push.ensures.len
+            c.push.ensures.room.0 s.room.0,
+        room_pushed s.pending c.take.new.self c.in-Some.field-0 _ _ s.spare _ _ old c.take.ensures.after c.push.ensures.len
+            c.push.ensures.room.1 s.room.1,
       );
     }

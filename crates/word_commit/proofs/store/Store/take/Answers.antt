@@ -1,4 +1,4 @@
-use Rattle.std.proofs.Common.{arith, ◌+◌, ◌*◌, ◌-◌, ◌≡◌, ap, sym}
+use Rattle.std.proofs.Common.{arith, ◌+◌, ◌*◌, ◌-◌}
 use Rattle.word_commit.proofs.Takes.{takes_at}
 use Rattle.word_commit.proofs.store.Store.take.Goals as goal
 
