@@ -2,5 +2,7 @@
 #![tactic(auto)]
 
 mod beside;
+mod pieces;
 
 pub use beside::Beside;
+pub use pieces::Pieces;
