@@ -1,8 +1,9 @@
 //! A try's own pieces: their words one after another, and the sizes of the pieces.
-ghost use Rattle.std.specs.Prelude.{◌≡◌, ◌++◌, ◌+◌, ◌<◌, ◌≤◌, [], ◌∷◌, ℕ, length, IfOk, OnOk, MatchResult};
+ghost use Rattle.std.specs.Prelude.{◌≡◌, ◌++◌, ◌+◌, ◌-◌, ◌<◌, ◌≤◌, [], ◌∷◌, ℕ, length, IfOk, OnOk, MatchResult};
 ghost use Rattle.heap_words.specs.Trails.{word_at};
-ghost use Rattle.word_states.specs.Pieces.{rows};
-ghost use Rattle.trial_laws.specs.AtHand.{end_of};
+ghost use Rattle.word_states.specs.Pieces.{rows, StartsAt};
+ghost use Rattle.trial_laws.specs.AtHand.{end_of, ArePieces};
+ghost use Rattle.trial_laws.specs.Laws.{IsFilled};
 ghost use Rattle.trial_machine.specs.Besides.{own_at};
 
 use fcp_model::NoMemory;
@@ -104,5 +105,15 @@ impl Pieces {
                 Err(none)
             }
         }
+    }
+
+    /// Writes a word into an own place, which is unbound. The address is that of the place's word.
+    pub fn fill(&mut self, addr: u32, word: u64)
+        requires above { 4000000000 < addr }
+        requires place { StartsAt 4000000000 self.old (addr - 1) (0 ∷ 0 ∷ []) }
+        requires formed { ArePieces self.old }
+        ensures { IsFilled (addr - 1) word self.old self.new }
+    {
+        self.words[(addr - OWN) as usize] = word;
     }
 }
