@@ -1,5 +1,6 @@
 -- An own place among pieces that takes a word.
-use Rattle.std.proofs.Common.{◌≡◌, ℕ, zero, suc, ◌+◌, ◌-◌, ◌<◌, ◌≤◌, cond, List, [], ◌∷◌, length, take, drop, refl, sym, ap, ap₂, ◌∙◌, subst}
+use Rattle.std.proofs.Common.{◌≡◌, ℕ, zero, suc, ◌+◌, ◌-◌, ◌<◌, ◌≤◌, cond, List, [], ◌∷◌, length, take, drop, refl, sym, ap, ap₂, ◌∙◌}
+use Rattle.std.proofs.Common.{subst}
 use Rattle.std.proofs.Common.{inl, inr, arith}
 use Rattle.std.specs.Prelude.{slice_set}
 use Rattle.std.proofs.lemmas.List.{length-take-le, length-drop}
@@ -97,7 +98,8 @@ drop_set (suc n) (suc k) (y ∷ ws) x l = drop_set n k ws x (omega arith) ∙ ap
     less k n = omega arith
 
 -- the second of two words
-take_second : (ws : List ℕ) (x : ℕ) → take 2 ws ≡ 0 ∷ 0 ∷ [] → (take 2 (slice_set ws 1 x) ≡ 0 ∷ x ∷ []) × (drop 2 (slice_set ws 1 x) ≡ drop 2 ws)
+take_second : (ws : List ℕ) (x : ℕ) → take 2 ws ≡ 0 ∷ 0 ∷ []
+    → (take 2 (slice_set ws 1 x) ≡ 0 ∷ x ∷ []) × (drop 2 (slice_set ws 1 x) ≡ drop 2 ws)
 take_second [] x e = absurd (let l : 0 ≡ 2 = ap length e in omega arith)
 take_second (y ∷ []) x e = absurd (let l : 1 ≡ 2 = ap length e in omega arith)
 take_second (y ∷ z ∷ ws) x e = let h : y ≡ 0 = cc in (ap (λ (n : ℕ). n ∷ x ∷ []) h, refl)
@@ -128,7 +130,8 @@ cut_filled (n ∷ ns) ws b s k x (inr h) whole e =
 pub is_filled : (ns ws : List ℕ) (ps : List (List ℕ)) (s k x : ℕ) → total ns ≡ length ws → cut ws ns ≡ ps → suc s ≡ 4000000000 + k
     → ArePieces ps → StartsAt 4000000000 ps s (0 ∷ 0 ∷ []) → IsFilled s x ps (cut (slice_set ws k x) ns)
 is_filled ns ws ps s k x whole is e formed h =
-    let g : StartsAt 4000000000 (cut ws ns) s (0 ∷ 0 ∷ []) = subst (λ (p : List (List ℕ)). StartsAt 4000000000 p s (0 ∷ 0 ∷ [])) (sym is) h in
+    let g : StartsAt 4000000000 (cut ws ns) s (0 ∷ 0 ∷ []) = subst (λ (p : List (List ℕ)). StartsAt 4000000000 p s (0 ∷ 0 ∷ []))
+    (sym is) h in
     subst (λ (p : List (List ℕ)). IsFilled s x p (cut (slice_set ws k x) ns)) is
     (subst (λ (p : List (List ℕ)). IsFilled s x (cut ws ns) p) (sym (cut_filled ns ws 4000000000 s k x g whole e))
     (record {

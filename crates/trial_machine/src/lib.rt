@@ -3,6 +3,8 @@
 
 mod beside;
 mod pieces;
+mod slots;
 
 pub use beside::Beside;
 pub use pieces::Pieces;
+pub use slots::Slots;
