@@ -2,3 +2,4 @@ pub mod Held
 pub mod Cuts
 pub mod Besides
 pub mod BesideLaws
+pub mod Desks
