@@ -1,10 +1,10 @@
 -- The laws of words, where a try's own words stand beside others.
-use Rattle.std.specs.Prelude.{◌≡◌, ℕ, suc, ◌+◌, ◌-◌, ◌<◌, ◌≤◌, ◌⊎◌, Bool, true, false, List, Option, Some, None, refl, length, slice_get}
-use Rattle.std.specs.Prelude.{nat_lt, nat_eq}
+use Rattle.std.specs.Prelude.{◌≡◌, ℕ, ◌+◌, ◌-◌, ◌<◌, ◌≤◌, ◌⊎◌, Bool, true, false, List, Option, Some, None, refl, length, slice_get}
+use Rattle.std.specs.Prelude.{nat_eq}
 use Rattle.std.proofs.Common.{sym, ◌∙◌, ap, subst, arith, inl, inr, ⊎_elim, cond}
-use Rattle.std.proofs.lemmas.Bool.{lt-ltb, le-ltb, ltb-false, ltb-true, eqb-false, cases_lt, cond-false}
+use Rattle.std.proofs.lemmas.Bool.{lt-ltb, le-ltb, eqb-false, cases_lt}
 use Rattle.std.proofs.lemmas.Option.{slice_get_within, same_Some}
-use Rattle.heap_words.specs.Cells.{decoded, is_final_word}
+use Rattle.heap_words.specs.Cells.{decoded}
 use Rattle.heap_words.specs.declared.cell.Cell.{Cell}
 use Rattle.heap_words.specs.declared.cell.Cell.TheVariants.{Unbound, Ref, RoRef, Small, Wide, Str, Nil, Cons, Tuple, Status, Raw, Top}
 use Rattle.heap_words.specs.WordsLaws.{WordsLaws, Acyclic, tells_all}
@@ -80,10 +80,10 @@ part_by_refers n (Raw m) b h = absurd h
 part_by_refers n (Top a) b h = absurd h
 
 -- own words
-own_low : (ws : List ℕ) (a : ℕ) → a < 4000000000 → own_at ws a ≡ None
+pub own_low : (ws : List ℕ) (a : ℕ) → a < 4000000000 → own_at ws a ≡ None
 own_low ws a l = ap (λ (c : Bool). cond c None (slice_get ws (a - 4000000000))) (lt-ltb a 4000000000 l)
 
-own_high : (ws : List ℕ) (a : ℕ) → 4000000000 ≤ a → own_at ws a ≡ slice_get ws (a - 4000000000)
+pub own_high : (ws : List ℕ) (a : ℕ) → 4000000000 ≤ a → own_at ws a ≡ slice_get ws (a - 4000000000)
 own_high ws a l = ap (λ (c : Bool). cond c None (slice_get ws (a - 4000000000))) (le-ltb a 4000000000 l)
 
 own_above : (ws : List ℕ) (a x : ℕ) → own_at ws a ≡ Some x → 4000000000 ≤ a
@@ -169,7 +169,8 @@ module _ {V : Type 0} {addresses : V → ℕ} {sound : V → Type 0} {knows : V 
       (λ b. own_at b.own.now)
       (λ b. either (shown b.words.now) b.own.now)
       (λ x y. (later x.words.now y.words.now) × (y.words.ghost_name ≡ x.words.ghost_name) × (y.own.now ≡ x.own.now))
-      (λ x y a v. ((gave x.words.now y.words.now a v) × (a < 4000000000) × (y.words.ghost_name ≡ x.words.ghost_name) × (y.own.now ≡ x.own.now))
+      (λ x y a v. ((gave x.words.now y.words.now a v) × (a < 4000000000) × (y.words.ghost_name ≡ x.words.ghost_name)
+      × (y.own.now ≡ x.own.now))
       ⊎ ((later x.words.now y.words.now) × (own_at y.own.now a ≡ Some v) × (y.words.ghost_name ≡ x.words.ghost_name)
       × (y.own.now ≡ x.own.now)))
   beside_laws = record {
@@ -234,7 +235,8 @@ module _ {V : Type 0} {addresses : V → ℕ} {sound : V → Type 0} {knows : V 
         (λ m. ⊎_elim
         (λ j. ⊎_elim (λ q. laws.part_final_by w.words.now x t z n b y c s.0 m d k j.0 e r q.0)
         (λ q. absurd (let o = own_above w.own.now b y q in
-        let v = low_known w.words.now b s.0 s.1 (laws.reaches_by w.words.now x t z n b c s.0 m d k j.0 e (part_by_refers n c b r)) in omega arith)) h)
+        let v = low_known w.words.now b s.0 s.1 (laws.reaches_by w.words.now x t z n b c s.0 m d k j.0 e
+        (part_by_refers n c b r)) in omega arith)) h)
         (λ j. absurd (below_told w.words.now w.own.now x t z c s m d k j)) i)
         (λ m. let o : 4000000000 ≤ t = m.told t c d k in
         ⊎_elim (λ j. absurd (let q : t < 4000000000 = j.1 in omega arith))

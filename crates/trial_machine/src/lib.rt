@@ -2,5 +2,12 @@
 #![tactic(auto)]
 
 mod beside;
+mod desk;
+mod pieces;
+mod put;
+mod slots;
 
 pub use beside::Beside;
+pub use desk::Desk;
+pub use pieces::Pieces;
+pub use slots::Slots;

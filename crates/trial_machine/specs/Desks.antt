@@ -1,0 +1,28 @@
+-- A desk as what a try has at hand.
+use Rattle.std.specs.Prelude.{◌≡◌, ℕ, Bool, List}
+use Rattle.heap_words.specs.Trails.{WordList}
+use Rattle.trial_laws.specs.AtHand.{AtHand}
+use Rattle.trial_machine.specs.Held.{Held, held}
+use Rattle.trial_machine.specs.declared.desk.Desk.{Desk}
+
+-- what is at hand, by what the slots hold, the pieces, and what the trail has of this try
+abbrev pub at_hand : ℕ → ℕ → Bool → Held → List (List ℕ) → WordList → List ℕ → List ℕ → AtHand
+at_hand clause next behind h ps binds reads waits = record {
+  clause = clause;
+  next = next;
+  behind = behind;
+  slots = h.words;
+  operators = h.operators;
+  pieces = ps;
+  binds = binds;
+  reads = reads;
+  waits = waits;
+}
+
+-- what is at hand with a desk
+abbrev pub hand : Desk → WordList → List ℕ → List ℕ → AtHand
+hand d binds reads waits = at_hand d.clause d.next d.behind (held d.slots) d.pieces binds reads waits
+
+-- what is at hand has become this, whatever the trail has
+abbrev pub Becomes : Desk → Desk → (AtHand → AtHand) → Type 0
+Becomes old new f = (binds : WordList) (reads waits : List ℕ) → hand new binds reads waits ≡ f (hand old binds reads waits)

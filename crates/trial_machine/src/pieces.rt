@@ -1,0 +1,119 @@
+//! A try's own pieces: their words one after another, and the sizes of the pieces.
+ghost use Rattle.std.specs.Prelude.{◌≡◌, ◌++◌, ◌+◌, ◌-◌, ◌<◌, ◌≤◌, [], ◌∷◌, ℕ, length, IfOk, OnOk, MatchResult};
+ghost use Rattle.heap_words.specs.Trails.{word_at};
+ghost use Rattle.word_states.specs.Pieces.{rows, StartsAt};
+ghost use Rattle.trial_laws.specs.AtHand.{end_of, ArePieces};
+ghost use Rattle.trial_laws.specs.Laws.{IsFilled};
+ghost use Rattle.trial_machine.specs.Besides.{own_at};
+
+use fcp_model::NoMemory;
+use std::alloc::Global;
+use std::marker::Model;
+
+/// Addresses from here on are those of a try's own pieces.
+pub(crate) const OWN: u32 = 4_000_000_000;
+
+/// So many words the pieces have at most, so that the address after them has 32 bits.
+const MOST: usize = 294_967_295;
+
+/// Pieces, in the order in which they were put. Contracts see the list of pieces.
+#[derive(Drop)]
+pub struct Pieces {
+    words: Vec<u64>,
+    sizes: Vec<u32>,
+}
+
+impl Model for Pieces {
+    ghost use Rattle.std.specs.Prelude.{◌≡◌, ◌≤◌, ℕ, List, length};
+    ghost use Rattle.trial_machine.specs.Cuts.{cut, total};
+
+    ghost Value = { List (List ℕ) };
+
+    ghost view = { λ p. cut p.words.items p.sizes.items };
+
+    ghost invariant = { λ p. (total p.sizes.items ≡ length p.words.items) × (length p.words.items ≤ 294967295) };
+}
+
+/// Puts a size after the others. Where memory runs out, the sizes stay as they were.
+fn put_size(sizes: &mut Vec<u32>, size: u32) -> Result<(), NoMemory>
+    ensures { MatchResult result (λ _. sizes.new.items ≡ sizes.old.items ++ size ∷ []) (λ _. sizes.new.items ≡ sizes.old.items) }
+{
+    match sizes.push(size) {
+        Ok(()) => Ok(()),
+        Err(_) => Err(NoMemory),
+    }
+}
+
+/// Puts words after the others. Where memory runs out, the words stay as they were.
+fn put_words(words: &mut Vec<u64>, more: &[u64]) -> Result<(), NoMemory>
+    ensures { MatchResult result (λ _. words.new.items ≡ words.old.items ++ more.now) (λ _. words.new.items ≡ words.old.items) }
+{
+    match words.extend_from_slice(more) {
+        Ok(()) => Ok(()),
+        Err(_) => Err(NoMemory),
+    }
+}
+
+impl Pieces {
+    /// No pieces. It takes no memory.
+    pub fn make(alloc: Global) -> Pieces
+        ensures { result ≡ [] }
+    {
+        Pieces {
+            words: Vec::new(alloc),
+            sizes: Vec::new(alloc),
+        }
+    }
+
+    /// Drops all pieces, and keeps the memory for others.
+    pub fn clear(&mut self)
+        ensures { self.new ≡ [] }
+    {
+        self.words.clear();
+        self.sizes.clear();
+    }
+
+    /// The address after the pieces.
+    pub fn end(&self) -> u32
+        ensures { result ≡ end_of 4000000000 self.now }
+    {
+        OWN + self.words.as_slice().len() as u32
+    }
+
+    /// The words of all pieces, the first of which is at 4,000,000,000.
+    pub fn words(&self) -> &[u64]
+        ensures { (a : ℕ) → own_at result.now a ≡ word_at (rows 4000000000 self.now) a }
+    {
+        self.words.as_slice()
+    }
+
+    /// Puts a piece after the others, and answers its address. Where memory or addresses run out, the pieces stay as they were.
+    pub fn put(&mut self, piece: &[u64]) -> Result<u32, NoMemory>
+        ensures pieces { MatchResult result (λ _. self.new ≡ self.old ++ piece.now ∷ []) (λ _. self.new ≡ self.old) }
+        ensures at { IfOk result (λ a. (a ≡ end_of 4000000000 self.old) × (a + length piece.now < 4294967296)) }
+    {
+        let count = self.words.as_slice().len();
+        let size = piece.len();
+        if size > MOST - count {
+            return Err(NoMemory);
+        }
+        put_size(&mut self.sizes, size as u32)?;
+        match put_words(&mut self.words, piece) {
+            Ok(()) => Ok(OWN + count as u32),
+            Err(none) => {
+                self.sizes.pop();
+                Err(none)
+            }
+        }
+    }
+
+    /// Writes a word into an own place, which is unbound. The address is that of the place's word.
+    pub fn fill(&mut self, addr: u32, word: u64)
+        requires above { 4000000000 < addr }
+        requires place { StartsAt 4000000000 self.old (addr - 1) (0 ∷ 0 ∷ []) }
+        requires formed { ArePieces self.old }
+        ensures { IsFilled (addr - 1) word self.old self.new }
+    {
+        self.words[(addr - OWN) as usize] = word;
+    }
+}
