@@ -13,7 +13,7 @@ use heap_words::{Cell, Words, decode};
 use std::alloc::Global;
 
 /// A sheet takes words up to this number.
-const MOST: usize = 4_000_000;
+const MOST: usize = 16_000_000;
 
 /// Blocks of 128 words by turns for places and for the words of terms. A word that leads to a higher address, or as to a part to a
 /// block of places, is taken for the empty list; so is a count but for the first word of a block, and each status and top.
@@ -36,7 +36,7 @@ impl Sheet {
     pub fn put(&mut self, word: u64) -> Result<u32, NoMemory>
         ensures put { OnOk result (self.new.words.items ≡ self.old.words.items ++ word ∷ []) }
         ensures at { IfOk result (λ a. a ≡ length self.old.words.items) }
-        ensures few { OnOk result (length self.new.words.items ≤ 4000000) }
+        ensures few { OnOk result (length self.new.words.items ≤ 16000000) }
         ensures stays { OnErr result (self.new.words.items ≡ self.old.words.items) }
     {
         let at = self.words.len();

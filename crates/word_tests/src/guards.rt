@@ -370,8 +370,8 @@ fn blank(alloc: Global) -> Result<Sheet, NoMemory> {
 /// The comparison of two terms of 100,000 pairs, each the first part of the next one.
 fn deep_answer(alloc: Global) -> Result<Tested, NoMemory> {
     let mut sheet = blank(alloc)?;
-    let left = deep(&mut sheet, 100_000)?;
-    let right = deep(&mut sheet, 100_000)?;
+    let left = deep(&mut sheet, 1_000_000)?;
+    let right = deep(&mut sheet, 1_000_000)?;
     equality(alloc, &mut sheet, left, right)
 }
 

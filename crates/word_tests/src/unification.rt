@@ -155,8 +155,8 @@ fn a_deep_term_is_unified(rt: HostRuntime) -> Result<(), Fail> {
     for _ in 0..254 {
         sheet.put(NIL)?;
     }
-    let left = deep(&mut sheet, 100_000)?;
-    let right = deep(&mut sheet, 100_000)?;
+    let left = deep(&mut sheet, 1_000_000)?;
+    let right = deep(&mut sheet, 1_000_000)?;
     let (end, trail) = unify_two(rt.alloc(), &mut lists, &mut sheet, left, right)?;
     assert_eq!(rt; end, Unified::Done);
     assert_eq!(rt; reads(&trail), [0, 0, 0, 0]);

@@ -225,10 +225,10 @@ fn a_deep_term_has_its_text(rt: HostRuntime) -> Result<(), Fail> {
     for _ in 0..256 {
         sheet.put(NIL)?;
     }
-    let word = deep(&mut sheet, 100_000)?;
+    let word = deep(&mut sheet, 1_000_000)?;
     let cut = text_of(rt.alloc(), &mut lists, &mut sheet, &names, word, 3)?;
     assert_eq!(rt; cut.as_slice(), "[[[..|..]|..]|..]".as_bytes());
     let whole = text_of(rt.alloc(), &mut lists, &mut sheet, &names, word, u32::MAX)?;
-    assert_eq!(rt; whole.len(), 200_002);
+    assert_eq!(rt; whole.len(), 2_000_002);
     Ok(())
 }
