@@ -1,5 +1,5 @@
 -- A goal that is read from a text and loads may be laid.
-use Rattle.std.proofs.Common.{◌≡◌, ℕ, ◌+◌, ◌<◌, ◌≤◌, List, [], ◌∷◌, ◌++◌, true, length, fold, sym, subst, arith, nat_le}
+use Rattle.std.proofs.Common.{◌≡◌, ℕ, ◌+◌, ◌<◌, ◌≤◌, List, [], ◌∷◌, true, length, fold, sym, subst, arith, nat_le}
 use Rattle.std.specs.List.{list_all}
 use Rattle.std.proofs.lemmas.Bool.{and_parts, leb-true}
 use Rattle.std.proofs.lemmas.List.{length-append}
@@ -13,17 +13,12 @@ use Rattle.fcp_model.specs.ProcedureNames.{procedure_names, procedure_name, same
 use Rattle.fcp_model.proofs.ProcedureNameLists.{length-insert_key}
 use Rattle.indexmap.specs.IndexSet.{insert_key}
 use Rattle.fcp_model.specs.Goals.{AreNumbersOf}
-use Rattle.fcp_model.specs.Translation.{started_goals}
-use Rattle.fcp_model.specs.ClosedPrograms.{GoalsOver, IsNumbered}
-use Rattle.fcp_text.specs.Bytes.{Text}
 use Rattle.fcp_grammar.specs.ItemGrammar.{item_value, item_values}
 use Rattle.fcp_reader.specs.GoalGrammar.{GoalTree, bare_goal, dotted_goal, goal_value}
 use Rattle.fcp_reader.specs.Limits.{is_call_within, are_items_within, is_goal_within}
-use Rattle.fcp_reader.specs.Sources.{IsModule, IsGoal}
 use Rattle.fcp_reader.proofs.TextLimits.{texts_keep_limits_law}
-use Rattle.fcp_loader.specs.Loading.{IsGoalOf}
 use Rattle.program_laws.proofs.ProgramsOfTexts.{goal_closes}
-use Rattle.goal_layout.specs.Goals.{MayBeLaid, AreNarrowGoals}
+use Rattle.goal_layout.specs.Goals.{MayBeLaid}
 use Rattle.layable_goals.proofs.NarrowGoals.{goals_narrow}
 use Rattle.layable_goals.specs.Laws.{AGoalOfATextMayBeLaid}
 
@@ -38,7 +33,8 @@ few_procedures [] hs = omega arith
 few_procedures (c ∷ cs) hs =
     omega (arith, few_procedures cs (insert_key same_procedure hs (procedure_name c)), length-insert_key hs (procedure_name c))
 
-may_be_laid : (m : Module) (g : GoalText) (numbers : List ℕ) → AreNumbersOf m g.items numbers → length (procedure_names m.clauses) ≤ TRUE_PROCEDURE
+may_be_laid : (m : Module) (g : GoalText) (numbers : List ℕ) → AreNumbersOf m g.items numbers
+    → length (procedure_names m.clauses) ≤ TRUE_PROCEDURE
     → 0 < length g.items → is_goal_within g ≡ true → MayBeLaid m (g, numbers)
 may_be_laid m g numbers are few some within =
     let parts = and_parts (nat_le (length g.names) 250) (are_items_within (length g.names) g.items) within in

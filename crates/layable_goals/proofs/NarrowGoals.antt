@@ -1,5 +1,5 @@
 -- Goals within the limits of texts have few arguments, and their tuples few parts.
-use Rattle.std.proofs.Common.{◌≡◌, ℕ, zero, suc, ◌+◌, ◌≤◌, List, [], ◌∷◌, Bool, true, length, map, sym, ap, ◌∙◌, subst, arith, nat_le}
+use Rattle.std.proofs.Common.{◌≡◌, ℕ, zero, suc, ◌≤◌, List, [], ◌∷◌, Bool, true, length, map, sym, ◌∙◌, subst, arith, nat_le}
 use Rattle.std.specs.List.{list_all}
 use Rattle.std.proofs.lemmas.Bool.{and_parts, leb-true}
 use Rattle.std.proofs.lemmas.List.{length-map}
@@ -11,15 +11,13 @@ use Rattle.fcp_model.specs.declared.source.Item.{Item}
 use Rattle.fcp_model.specs.declared.term.Term as source
 use Rattle.fcp_model.specs.declared.term.Term.TheVariants as T
 use Rattle.fcp_model.specs.declared.term.Expr as source_expr
-use Rattle.fcp_model.specs.declared.term.Expr.TheVariants as E
-use Rattle.fcp_model.specs.declared.term.ArithOp.{ArithOp}
 use Rattle.fcp_model.specs.Terms.{Term}
 use Rattle.fcp_model.specs.Expressions.{Expr}
 use Rattle.fcp_model.specs.Translation.{terms_of, term_step, term_of, expr_step, expr_of, user_goal, goal_of, goals_of}
 use Rattle.fcp_model.proofs.Folds.{Each, fold-Int, fold-Str, fold-Nil, fold-Cons, fold-Tuple, fold-Var, fold-Ro, term_induction}
 use Rattle.fcp_model.proofs.Folds.{fold-Leaf, fold-Op, expr_induction}
 use Rattle.fcp_reader.specs.Limits.{term_step as within_step, is_term_within, expr_step as expr_within_step, is_expr_within}
-use Rattle.fcp_reader.specs.Limits.{are_args_within, is_call_within, are_items_within}
+use Rattle.fcp_reader.specs.Limits.{is_call_within}
 use Rattle.goal_layout.specs.Laying.{IsNarrow, AreNarrow, IsNarrowExpr}
 use Rattle.goal_layout.specs.Items.{AllNarrow, IsNarrowGoal}
 use Rattle.goal_layout.specs.Goals.{AreNarrowGoals}

@@ -1,5 +1,6 @@
 //! The law that each goal that is read from a text and loads may be laid into words.
 #![tactic(auto)]
+
 ghost use Rattle.layable_goals.specs.Laws.{AGoalOfATextMayBeLaid};
 
 /// A goal that is read from a text and loads may be laid, where the module was read from a text of fewer than 2^32 - 3 bytes.
