@@ -15,8 +15,8 @@ mod workers;
 
 pub use banks::bank;
 pub use moved::Moved;
-pub use notes::{NOTE, Note, Notes};
-pub use noting::{blank_page, note};
+pub use notes::{LEAST_NOTE, Note, Notes};
+pub use noting::{add_note, blank_page};
 pub use purses::{Purses, Transfer};
 pub use runs::{Finish, purse_run};
 pub use spending::{Tally, spend};

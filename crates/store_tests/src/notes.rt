@@ -4,7 +4,7 @@ ghost use Rattle.store_tests.specs.NoteLaws.{note_laws};
 use word_commit::{Fits, Quota};
 
 /// The least word of a note: such words are final.
-pub const NOTE: u64 = 1 << 40;
+pub const LEAST_NOTE: u64 = 1 << 40;
 
 /// A new word at a page's top, which holds the entry's number.
 #[derive(Clone, Copy, Debug, PartialEq, Eq)]
@@ -34,7 +34,7 @@ impl Fits for Notes {
 
     fn write(entry: &Note, at: u32, number: u64) -> Option<(u32, u64)> {
         match at {
-            0 => Some((entry.top, NOTE + number)),
+            0 => Some((entry.top, LEAST_NOTE + number)),
             1 => Some((entry.page.wrapping_mul(1024), u64::from(entry.top) + 1)),
             _ => None,
         }

@@ -9,7 +9,7 @@ use std::alloc::Global;
 use word_commit::{Seat, Store, Taken};
 
 /// Writes a note at a page's top, and answers its number. `None` where another seat holds the page, or it is full.
-pub fn note(store: &Store<Notes>, seat: &mut Seat<Notes>, page: u32) -> Option<u64>
+pub fn add_note(store: &Store<Notes>, seat: &mut Seat<Notes>, page: u32) -> Option<u64>
     requires seat { IsSeatOf store.now seat.old }
     requires page { page < (given_of store.now).pages }
     requires rest { ((view_of seat.old).grip.held ≡ []) × ((view_of seat.old).grip.due ≡ []) }

@@ -1,4 +1,4 @@
-use crate::{NOTE, Notes, Purses, Transfer, bank, blank_page, glances, note, purse_run};
+use crate::{LEAST_NOTE, Notes, Purses, Transfer, add_note, bank, blank_page, glances, purse_run};
 use std::test::Fail;
 use word_commit::{Closed, Quota, Shared, Store, Taken};
 
@@ -133,11 +133,11 @@ fn notes_hold_their_numbers(rt: HostRuntime) -> Result<(), Fail> {
         cells: 2,
     };
     let (store, mut seat) = Store::<Notes>::make(rt.alloc(), blank_page(rt.alloc())?, cells, 2)?;
-    let Some(1) = note(&store, &mut seat, 0) else {
+    let Some(1) = add_note(&store, &mut seat, 0) else {
         panic!(rt; "the first entry has the number 1")
     };
     assert_eq!(rt; store.clock(&mut seat), 1);
-    let Some(2) = note(&store, &mut seat, 0) else {
+    let Some(2) = add_note(&store, &mut seat, 0) else {
         panic!(rt; "the second has the number 2")
     };
     assert_eq!(rt; store.quota(&seat).cells, 0);
@@ -146,7 +146,7 @@ fn notes_hold_their_numbers(rt: HostRuntime) -> Result<(), Fail> {
         store.load(&mut seat, 1),
         store.load(&mut seat, 2),
     ];
-    assert_eq!(rt; found, [3, NOTE + 1, NOTE + 2]);
+    assert_eq!(rt; found, [3, LEAST_NOTE + 1, LEAST_NOTE + 2]);
     let closed = store.close(seat);
     assert_eq!(rt; closed.log.len(), 2);
     Ok(())

@@ -13,7 +13,7 @@ use Rattle.word_commit.specs.declared.view.Numbered.{Numbered}
 use Rattle.word_commit.specs.declared.view.Given.{Given}
 use Rattle.word_commit.specs.declared.view.Nothing.{Nothing}
 use Rattle.word_commit.specs.Meanings.{Meaning, Among}
-use Rattle.word_commit.specs.Histories.{Inside, Lawful, world}
+use Rattle.word_commit.specs.Histories.{Inside, Closed, Lawful, world}
 use Rattle.word_commit.specs.Views.{all_rights, times}
 use Rattle.word_commit.specs.Kept.{words_of, Once, numbers_of, IsLogged, Kept}
 use Rattle.word_commit.specs.Seats.{pending_of, kept_of}
@@ -94,6 +94,10 @@ module _ {E : Type 0} (m : Meaning E) (g : Given) where
     pub lawful : Lawful m 1 (words_of g) history
     pub entries : (x : Numbered E) → Among v.entries x → IsLogged history x
     pub once : (n : ℕ) → Once (length history) n (times n (numbers_of v.entries))
+    pub ever : List (ℕ × ℕ)
+    pub stood : (a : ℕ) → a < 1024 * g.pages → Inside m.words (world m 1 (words_of g) history) a
+        → Among ever (a, slice_index (world m 1 (words_of g) history) a)
+    pub closed : Closed m.words ever (world m 1 (words_of g) history)
     pub words_are : (a : ℕ) → a < 1024 * g.pages → Inside m.words (world m 1 (words_of g) history) a → slice_index words a
         ≡ slice_index (world m 1 (words_of g) history) a
 
@@ -106,6 +110,10 @@ module _ {E : Type 0} (m : Meaning E) (g : Given) where
         lawful = h.lawful;
         entries = λ x y. (h.entries x y).0;
         once = h.whole all;
+        ever = h.ever;
+        stood = subst (λ (w : List ℕ). (a : ℕ) → a < 1024 * g.pages → Inside m.words w a → Among h.ever (a, slice_index w a)) (sym h.folds)
+            h.stood;
+        closed = subst (Closed m.words h.ever) (sym h.folds) h.closed;
         words_are = subst (λ (w : List ℕ). (a : ℕ) → a < 1024 * g.pages → Inside m.words w a → slice_index words a ≡ slice_index w a)
             (sym h.folds)
             (λ a range inside. ap (λ (w : List ℕ). slice_index w a) (sym f.2) ∙ r.1 a range all idle inside);
@@ -134,6 +142,9 @@ module _ {E : Type 0} (m : Meaning E) (g : Given) where
     history = e.history;
     lawful = e.lawful;
     entries = e.entries;
+    ever = e.ever;
+    stood = e.stood;
+    closed = e.closed;
     whole = sym (once_length (length e.history) (numbers_of v.entries) e.once) ∙ length-numbers_of v.entries;
     log_is = arranged_history f e.history v.entries sorted e.entries e.once
         (subst (λ (z : List ℕ). AreArranged z (kept_of f v.entries) sorted) n (subst (λ (z : List _). AreArranged numbers z sorted) k a));

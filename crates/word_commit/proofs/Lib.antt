@@ -8,6 +8,7 @@ pub mod Takes
 pub mod Begins
 pub mod Writes
 pub mod Clocks
+pub mod Growth
 pub mod Stamps
 pub mod Seating
 pub mod Shares

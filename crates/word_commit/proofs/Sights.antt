@@ -89,6 +89,7 @@ module _ {E : Type 0} (m : Meaning E) where
       few = let a = few_entries s k in let b = k.few in omega arith;
       wide = wide_fold s k;
       ever = k.ever;
+      stood = k.stood;
       closed = k.closed;
       shown = f.shown;
       entries = f.entries;

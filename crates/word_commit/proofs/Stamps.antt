@@ -1,6 +1,6 @@
 -- The stamp of an entry keeps the rule.
 use Rattle.std.proofs.Common.{◌≡◌, ◌≢◌, ◌⊎◌, ℕ, suc, ◌+◌, ◌-◌, ◌*◌, ◌/◌, ◌%◌, ◌^◌, ◌<◌, ◌≤◌, List, [], ◌∷◌, ◌++◌, length, set, true}
-use Rattle.std.proofs.Common.{false, true≢false, refl, sym, ap, ◌∙◌, subst, ⊎_elim, inl, inr, arith, get_or-set_same, get_or-set_other}
+use Rattle.std.proofs.Common.{false, refl, sym, ap, ◌∙◌, subst, ⊎_elim, inl, inr, arith, get_or-set_same, get_or-set_other}
 use Rattle.std.proofs.Common.{length-set, length-append}
 use Rattle.std.specs.Prelude.{slice_index}
 use mathlib.Core.Option.{some, some-injective}
@@ -9,7 +9,7 @@ use native.Mathlib.Decide.{ℕ_discrete}
 use lib.ListN.{get_elem?}
 use Rattle.std.proofs.Math.Nat.{mod-eq_of_lt}
 use Rattle.atomic_table.specs.Table.{Me, keeps, Allows}
-use Rattle.atomic_table.proofs.Lists.{set_here, set_else, at_longer, at_last}
+use Rattle.atomic_table.proofs.Lists.{set_here, set_else, at_last}
 use Rattle.word_commit.specs.declared.quota.Quota.{Quota}
 use Rattle.word_commit.specs.declared.view.View.{View}
 use Rattle.word_commit.specs.declared.view.Purse.{Purse}
@@ -17,10 +17,9 @@ use Rattle.word_commit.specs.declared.view.Numbered.{Numbered}
 use Rattle.word_commit.specs.declared.view.Given.{Given}
 use Rattle.word_commit.specs.declared.view.Nothing.{Nothing}
 use Rattle.word_commit.specs.Meanings.{Meaning, Among}
-use Rattle.word_commit.specs.Histories.{start_of, applied, Distinct, tops, Inside, Closed, AddsNothing, MayWrite, Laws, MayFollow, Lawful}
-use Rattle.word_commit.specs.Histories.{world}
+use Rattle.word_commit.specs.Histories.{start_of, applied, tops, Inside, Closed, AddsNothing, MayWrite, Laws, MayFollow}
 use Rattle.word_commit.specs.Views.{Charge, Commits, Moves, Cells, Extra, price, left, granted, is_in, times, shown, paid, stamped}
-use Rattle.word_commit.specs.Kept.{words_of, page_at, clock_at, total, Once, numbers_of, IsLogged, Plain, IsBetween, IsShown, IsTrueOf}
+use Rattle.word_commit.specs.Kept.{words_of, page_at, clock_at, total, Once, numbers_of, IsLogged, Plain, IsBetween, IsTrueOf}
 use Rattle.word_commit.specs.Kept.{Lags, Kept}
 use Rattle.word_commit.specs.Conditions.{IsUsed, CouldBe, Affords, MayStamp}
 use Rattle.word_commit.proofs.Lists.{at_length, each_set, among_left, among_right, among_either, distinct_few}
@@ -28,30 +27,9 @@ use Rattle.word_commit.proofs.Totals.{total_set, total_same, total_snoc, total_p
 use Rattle.word_commit.proofs.Pages.{times_snoc}
 use Rattle.word_commit.proofs.Keeping.{S, one_holder, holder_lags}
 use Rattle.word_commit.proofs.Begins.{inside_or_not}
-use Rattle.word_commit.proofs.Sights.{length-applied, takes_one, entries_below, few_entries, wide_fold, tops_rose}
-
--- words after writes, at an address that is not written, and at one that is
-pub applied_else : (w : List ℕ) (ws : List (ℕ × ℕ)) (a : ℕ) → ((y : ℕ) → Among ws (a, y) → ⊥) → slice_index (applied w ws) a
-    ≡ slice_index w a
-applied_else w [] a none_there = refl
-applied_else w (x ∷ xs) a none_there = applied_else (set w x.0 x.1) xs a (λ y h. none_there y (inr h)) ∙ get_or-set_other w x.0 a x.1 0
-    (λ e. none_there x.1 (inl (λ i. (sym e i, x.1))))
-
-pub applied_here : (w : List ℕ) (ws : List (ℕ × ℕ)) (x : ℕ × ℕ) → Distinct ws → Among ws x → x.0 < length w
-    → slice_index (applied w ws) x.0 ≡ x.1
-applied_here w [] x d h inside = absurd h
-applied_here w (y ∷ ys) x d (inl e) inside = subst (λ (z : ℕ × ℕ). slice_index (applied (set w y.0 y.1) ys) z.0 ≡ z.1) e
-    (applied_else (set w y.0 y.1) ys y.0 d.0 ∙ get_or-set_same w y.0 y.1 0 (subst (λ (z : ℕ × ℕ). z.0 < length w) (sym e) inside))
-applied_here w (y ∷ ys) x d (inr h) inside = applied_here (set w y.0 y.1) ys x d.1 h
-    (subst (λ (n : ℕ). x.0 < n) (sym (length-set w y.0 y.1)) inside)
-
--- whether an address is written
-pub written : (ws : List (ℕ × ℕ)) (a : ℕ) → ((x : ℕ) × Among ws (a, x)) ⊎ ((y : ℕ) → Among ws (a, y) → ⊥)
-written [] a = inr (λ y h. h)
-written (x ∷ xs) a = dite (ℕ_discrete x.0 a) (λ e. inl (x.1, inl (λ i. (e i, x.1))))
-    (λ ne. ⊎_elim (λ (t : (y : ℕ) × Among xs (a, y)). inl (t.0, inr t.1))
-    (λ (t : (y : ℕ) → Among xs (a, y) → ⊥). inr (λ y h. ⊎_elim (λ (e : x ≡ (a, y)). ne (ap (λ (z : ℕ × ℕ). z.0) e))
-    (λ (r : Among xs (a, y)). t y r) h)) (written xs a))
+use Rattle.word_commit.proofs.Sights.{takes_one, entries_below, few_entries, wide_fold, tops_rose}
+use Rattle.word_commit.proofs.Growth.{applied_else, applied_here, written, world_snoc, lawful_snoc, inside_after, still_plain}
+use Rattle.word_commit.proofs.Growth.{still_logged, still_between, still_shown}
 
 -- what is left after a cost that can be paid
 left_paid : (c : Charge) (p : Purse) (q : Quota) → left c (paid p q) ≡ left c p - price c q
@@ -61,54 +39,7 @@ left_paid Cells p q = refl
 left_paid Extra p q = refl
 
 module _ {E : Type 0} (m : Meaning E) where
-  world_snoc : (n : ℕ) (w : List ℕ) (es : List E) (e : E) → world m n w (es ++ e ∷ [])
-      ≡ applied (world m n w es) (m.writes e (n + length es))
-  world_snoc n w [] e = ap (λ (k : ℕ). applied w (m.writes e k)) (let h : n ≡ n + 0 = omega arith in h)
-  world_snoc n w (d ∷ es) e = world_snoc (suc n) (applied w (m.writes d n)) es e
-      ∙ ap (λ (k : ℕ). applied (world m (suc n) (applied w (m.writes d n)) es) (m.writes e k))
-      (let h : suc n + length es ≡ n + suc (length es) = omega arith in h)
-
-  lawful_snoc : (n : ℕ) (w : List ℕ) (es : List E) (e : E) → Lawful m n w es → MayFollow m (n + length es) (world m n w es) e
-      → Lawful m n w (es ++ e ∷ [])
-  lawful_snoc n w [] e law may = (subst (λ (k : ℕ). MayFollow m k w e) (let h : n + 0 ≡ n = omega arith in h) may, tt)
-  lawful_snoc n w (d ∷ es) e law may = (
-    law.0,
-    lawful_snoc (suc n) (applied w (m.writes d n)) es e law.1
-        (subst (λ (k : ℕ). MayFollow m k (world m (suc n) (applied w (m.writes d n)) es) e)
-        (let h : n + suc (length es) ≡ suc n + length es = omega arith in h) may),
-  )
-
-  pub inside_after : (w : List ℕ) (ws : List (ℕ × ℕ)) (a : ℕ) → MayWrite m.words w ws → Inside m.words w a
-      → Inside m.words (applied w ws) a
-  inside_after w ws a may inside = ⊎_elim (λ (t : a ≡ start_of a). inl t)
-      (λ (t : a < m.words.top (slice_index w (start_of a))). let r = may.rises (start_of a)
-      (let h : start_of a ≡ start_of (start_of a) = omega arith in h) in inr (omega arith)) inside
-
-  still_plain : (ever more : List (ℕ × ℕ)) (x : ℕ × ℕ) → Plain m ever x → Plain m (ever ++ more) x
-  still_plain ever ws x (inl h) = inl (among_left ever ws x h)
-  still_plain ever ws x (inr h) = inr h
-
-  still_logged : (log more : List E) (x : Numbered E) → IsLogged log x → IsLogged (log ++ more) x
-  still_logged log more x h = (h.0, h.1, at_longer log more h.0 x.entry h.2)
-
   module _ (g : Given) where
-    still_between : (w : List ℕ) (ws : List (ℕ × ℕ)) (x : ℕ × ℕ) → MayWrite m.words w ws → IsBetween m (words_of g) w x
-        → IsBetween m (words_of g) (applied w ws) x
-    still_between w ws x may h start = let r = may.rises x.0 start in let a = h start in let b = a.1 in (a.0, (omega arith))
-
-    still_shown : (ever : List (ℕ × ℕ)) (w : List ℕ) (ws : List (ℕ × ℕ)) (x : ℕ × ℕ) → MayWrite m.words w ws
-        → IsShown m (words_of g) ever w x → IsShown m (words_of g) (ever ++ ws) (applied w ws) x
-    still_shown ever w ws x may h = record {
-      plain = still_plain ever ws x h.plain;
-      inside = inside_after w ws x.0 may h.inside;
-      there = let l = length-applied w ws in let t = h.there in omega arith;
-      final = λ final. ⊎_elim
-          (λ (t : (y : ℕ) × Among ws (x.0, y)). absurd (true≢false
-          (sym final ∙ ap m.words.is_final (sym (h.final final)) ∙ may.soft (x.0, t.0) t.1 h.inside)))
-          (λ (t : (y : ℕ) → Among ws (x.0, y) → ⊥). applied_else w ws x.0 t ∙ h.final final) (written ws x.0);
-      top = still_between w ws x may h.top;
-    }
-
     -- What is so when the entry e gets the number n, over the words and views that a seat may find.
     record Stamping (s : S E) (k : Kept m g s) (id : ℕ) (v : View E) (e : E) (n : ℕ) : Type 0 where
       at : get_elem? s.views id ≡ some v
@@ -205,7 +136,7 @@ module _ {E : Type 0} (m : Meaning E) where
 
       within' : (x : ℕ × ℕ) → Among (k.ever ++ ws) x → Inside m.words fold' x.0 × IsBetween m (words_of g) fold' x
       within' x h = ⊎_elim
-          (λ (t : Among k.ever x). let r = k.within x t in (inside_after k.fold ws x.0 ok r.0, still_between k.fold ws x ok r.1))
+          (λ (t : Among k.ever x). let r = k.within x t in (inside_after m k.fold ws x.0 ok r.0, still_between m g k.fold ws x ok r.1))
           (λ (t : Among ws x). (
             ok.below x t,
             (λ start.
@@ -243,7 +174,7 @@ module _ {E : Type 0} (m : Meaning E) where
             due = owed';
             soft = subst (λ (i : ℕ). m.words.is_final i ≡ false) eq (ok.soft (a, y) h inside);
             plain = inl (among_left k.ever ws (a, slice_index words' a) stands);
-            top = still_between k.fold ws (a, slice_index words' a) ok (k.within (a, slice_index words' a) stands).1;
+            top = still_between m g k.fold ws (a, slice_index words' a) ok (k.within (a, slice_index words' a) stands).1;
           })
           (λ (out : Inside m.words k.fold a → ⊥).
           let p = c.may.primed (a, y) h k.fold could out in
@@ -274,8 +205,8 @@ module _ {E : Type 0} (m : Meaning E) where
             due = subst (λ (i : ℕ). Among l.view.grip.due (a, i)) (sym (applied_else k.fold ws a t)) l.due;
             soft = ap m.words.is_final keep ∙ l.soft;
             plain = subst (λ (i : ℕ). Plain m (k.ever ++ ws) (a, i))
-                (sym keep) (still_plain k.ever ws (a, slice_index s.words a) l.plain);
-            top = still_between k.fold ws (a, slice_index words' a) ok
+                (sym keep) (still_plain m k.ever ws (a, slice_index s.words a) l.plain);
+            top = still_between m g k.fold ws (a, slice_index words' a) ok
                 (subst (λ (i : ℕ). IsBetween m (words_of g) k.fold (a, i)) (sym keep) l.top);
           }
 
@@ -291,7 +222,7 @@ module _ {E : Type 0} (m : Meaning E) where
       logged' : (x : Numbered E) → Among view'.entries x → IsLogged (k.log ++ e ∷ []) x × (x.number ≤ view'.front)
       logged' x h = ⊎_elim
           (λ (t : Among v.entries x). let f = k.views id v c.at in let r = f.entries x t in let le = r.1 in let front = f.front in
-          (still_logged k.log (e ∷ []) x r.0, (omega arith)))
+          (still_logged m k.log (e ∷ []) x r.0, (omega arith)))
           (λ (t : Among (record { number = suc (length k.log); entry = e } ∷ []) x). last x t)
           (among_either v.entries (record { number = suc (length k.log); entry = e } ∷ []) x h)
         where
@@ -306,7 +237,7 @@ module _ {E : Type 0} (m : Meaning E) where
         held = f.held;
         known = λ y h. let r = f.known y h in let p = f.held (y.0 / 1024) r.0 in (r.0, same y.0 (omega arith) ∙ r.1);
         due = λ y h. let t : Among ws y = subst (λ (i : ℕ). Among (m.writes e i) y) (sym c.number) h in (c.may.held y t, here y t);
-        shown = λ y h. still_shown k.ever k.fold ws y ok (f.shown y h);
+        shown = λ y h. still_shown m g k.ever k.fold ws y ok (f.shown y h);
         entries = logged';
         front = let l = length-append k.log (e ∷ []) in let one : length (e ∷ []) ≡ 1 = refl in omega arith;
         spent = λ none. absurd (let a = c.alive in omega arith);
@@ -324,8 +255,8 @@ module _ {E : Type 0} (m : Meaning E) where
               (c.may.held (z.0, t.0) t.1))))
               (λ (t : (x : ℕ) → Among ws (z.0, x) → ⊥). applied_else k.fold ws z.0 t ∙ r.1) (written ws z.0),
         );
-        shown = λ z h. still_shown k.ever k.fold ws z ok (f.shown z h);
-        entries = λ x h. let r = f.entries x h in (still_logged k.log (e ∷ []) x r.0, r.1);
+        shown = λ z h. still_shown m g k.ever k.fold ws z ok (f.shown z h);
+        entries = λ x h. let r = f.entries x h in (still_logged m k.log (e ∷ []) x r.0, r.1);
         front = let l = length-append k.log (e ∷ []) in let old = f.front in omega arith;
         spent = f.spent;
       }
@@ -359,9 +290,9 @@ module _ {E : Type 0} (m : Meaning E) where
       stamped_kept laws = let size = k.size in record {
         log = k.log ++ e ∷ [];
         fold = fold';
-        folds = world_snoc 1 (words_of g) k.log e ∙ ap (λ (w : List ℕ). applied w (m.writes e (1 + length k.log))) k.folds
+        folds = world_snoc m 1 (words_of g) k.log e ∙ ap (λ (w : List ℕ). applied w (m.writes e (1 + length k.log))) k.folds
             ∙ ap (λ (i : ℕ). applied k.fold (m.writes e i)) (let h = c.number in let r : 1 + length k.log ≡ n = omega arith in r);
-        lawful = lawful_snoc 1 (words_of g) k.log e k.lawful (subst (λ (w : List ℕ). MayFollow m (1 + length k.log) w e) (sym k.folds)
+        lawful = lawful_snoc m 1 (words_of g) k.log e k.lawful (subst (λ (w : List ℕ). MayFollow m (1 + length k.log) w e) (sym k.folds)
             (subst (λ (i : ℕ). MayFollow m i k.fold e) (let h = c.number in let r : n ≡ 1 + length k.log = omega arith in r) follows));
         ever = k.ever ++ ws;
         stood = stood';

@@ -6,7 +6,7 @@ use Rattle.word_commit.specs.declared.view.View.{View}
 use Rattle.word_commit.specs.declared.view.Numbered.{Numbered}
 use Rattle.word_commit.specs.declared.view.Given.{Given}
 use Rattle.word_commit.specs.Meanings.{Meaning, Among}
-use Rattle.word_commit.specs.Histories.{Inside, Lawful, world}
+use Rattle.word_commit.specs.Histories.{Inside, Closed, Lawful, world}
 use Rattle.word_commit.specs.Kept.{words_of, IsLogged}
 
 module _ {L : Type 0} where
@@ -26,6 +26,11 @@ module _ {E L : Type 0} (m : Meaning E) (logged : E → L) where
     pub whole : length history ≡ length v.entries
     -- is the log
     pub log_is : map logged history ≡ log
+    -- the words that stand or stood inside refer together to nothing but addresses inside
+    pub ever : List (ℕ × ℕ)
+    pub stood : (a : ℕ) → a < 1024 * g.pages → Inside m.words (world m 1 (words_of g) history) a
+        → Among ever (a, slice_index (world m 1 (words_of g) history) a)
+    pub closed : Closed m.words ever (world m 1 (words_of g) history)
     -- and the words are those after it wherever these are inside
     pub size : length words ≡ 1024 * g.pages
     pub words_are : (a : ℕ) → a < 1024 * g.pages → Inside m.words (world m 1 (words_of g) history) a → slice_index words a

@@ -17,8 +17,9 @@ module _ {E : Type 0} (m : Meaning E) (g : Given) where
     pub lawful : Lawful m 1 (words_of g) log
     pub few : length log < 2 ^ 32
     pub wide : length fold ≡ 1024 * g.pages
-    -- the words that stood inside refer together to nothing but addresses inside
+    -- the words that stand or stood inside refer together to nothing but addresses inside
     pub ever : List (ℕ × ℕ)
+    pub stood : (a : ℕ) → a < 1024 * g.pages → Inside m.words fold a → Among ever (a, slice_index fold a)
     pub closed : Closed m.words ever fold
     -- the words that were loaded at known addresses
     pub shown : (x : ℕ × ℕ) → Among (words_shown v.looks) x → IsShown m (words_of g) ever fold x
