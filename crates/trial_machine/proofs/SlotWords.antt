@@ -1,5 +1,6 @@
 -- The words of slots, after one was put and after a new try begins.
-use Rattle.std.proofs.Common.{◌≡◌, ℕ, zero, suc, ◌+◌, ◌<◌, ◌≤◌, Bool, true, false, cond, List, [], ◌∷◌, length, take, refl, sym, ap, ap₂}
+use Rattle.std.proofs.Common.{◌≡◌, ℕ, zero, suc, ◌+◌, ◌<◌, ◌≤◌, Bool, true, false, cond, List, [], ◌∷◌, ◌++◌, length, take, refl, sym, ap}
+use Rattle.std.proofs.Common.{ap₂}
 use Rattle.std.proofs.Common.{◌∙◌, subst, arith}
 use Rattle.std.proofs.Common.{true≢false, Option, Some, None}
 use Rattle.std.specs.Prelude.{slice_get, slice_set, nat_eq, unwrap_or}
@@ -116,3 +117,7 @@ pub reset_all : (slots : List Slot) (n : ℕ) → length slots ≤ n → NoneLat
 reset_all [] n l h = tt
 reset_all (s ∷ slots) zero l h = absurd (omega arith)
 reset_all (s ∷ slots) (suc n) l h = (h.0, reset_all slots n (omega arith) h.1)
+
+pub later_last : (slots : List Slot) (s : Slot) (now : ℕ) → NoneLater slots now → s.stamp ≤ now → NoneLater (slots ++ s ∷ []) now
+later_last [] s now h l = (l, tt)
+later_last (x ∷ slots) s now h l = (h.0, later_last slots s now h.1 l)

@@ -1,6 +1,7 @@
 //! The machine that follows compiled code over words.
 #![tactic(auto)]
 
+mod begin;
 mod beside;
 mod desk;
 mod pieces;
