@@ -19,6 +19,7 @@ impl Desk {
             clause: 0,
             next: 0,
             behind: true,
+            line: Vec::new(alloc),
         })
     }
 

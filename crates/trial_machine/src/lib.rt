@@ -4,6 +4,7 @@
 mod begin;
 mod beside;
 mod desk;
+mod get;
 mod pieces;
 mod put;
 mod slots;
