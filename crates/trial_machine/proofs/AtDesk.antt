@@ -1,9 +1,10 @@
 -- What is at hand with a desk, after a word or a piece was put.
-use Rattle.std.proofs.Common.{◌≡◌, ℕ, Bool, List, [], ◌∷◌, ◌++◌, ap, ap₂, ◌∙◌}
+use Rattle.std.proofs.Common.{◌≡◌, ℕ, zero, suc, refl, length, Bool, List, [], ◌∷◌, ◌++◌, ap, ap₂, ◌∙◌}
 use Rattle.heap_words.specs.Trails.{WordList}
-use Rattle.trial_laws.specs.Laws.{holding}
-use Rattle.trial_laws.specs.NewPieces.{with_piece}
-use Rattle.trial_machine.specs.Held.{Held, held_with}
+use Rattle.std.specs.Prelude.{slice_get, unwrap_or}
+use Rattle.trial_laws.specs.Laws.{holding, places_for, begun}
+use Rattle.trial_laws.specs.NewPieces.{with_piece, term_words}
+use Rattle.trial_machine.specs.Held.{Held, held_term, held_terms, held_with, held_anew}
 use Rattle.trial_machine.specs.Desks.{at_hand}
 
 -- a word in a slot
@@ -21,3 +22,27 @@ pub piece_put : (clause next : ℕ) (behind : Bool) (h h' : Held) (ps ps' : List
 piece_put clause next behind h h' ps ps' p q i x y o e f g k binds reads waits =
     ap₂ (λ (z : Held) (l : List (List ℕ)). at_hand clause next behind z l binds reads waits) e f
     ∙ ap₂ (λ (l : List ℕ) (z : ℕ). at_hand clause next behind (held_with h i z o) (ps ++ l ∷ []) binds reads waits) g k
+
+-- a try that begins
+pub try_begun : (clause next n c k : ℕ) (behind : Bool) (h h' : Held) (ps ps' : List (List ℕ)) (args : List ℕ) → h' ≡ held_anew args
+    → ps' ≡ places_for n → (binds : WordList) (reads waits : List ℕ)
+    → at_hand clause next behind h' ps' [] [] waits
+    ≡ begun (at_hand c k behind h ps binds reads waits) clause next n (λ i. unwrap_or (slice_get args i) 6)
+try_begun clause next n c k behind h h' ps ps' args e f binds reads waits =
+    ap₂ (λ (z : Held) (l : List (List ℕ)). at_hand clause next behind z l [] [] waits) e f
+
+-- the words of slots as terms
+pub terms_are : (clause next : ℕ) (behind : Bool) (h : Held) (ps : List (List ℕ)) (binds : WordList) (reads waits : List ℕ) (i n : ℕ)
+    → held_terms h i n ≡ term_words (at_hand clause next behind h ps binds reads waits) i n
+terms_are clause next behind h ps binds reads waits i zero = refl
+terms_are clause next behind h ps binds reads waits i (suc n) =
+    ap (λ (l : List ℕ). held_term h i ∷ l) (terms_are clause next behind h ps binds reads waits (suc i) n)
+
+-- a word and the words of slots, gathered in a list
+pub line_is : (s a b z ts : List ℕ) (x y : ℕ) → s ≡ a → a ≡ b ++ ts → b ≡ z ++ x ∷ [] → z ≡ [] → x ≡ y → s ≡ y ∷ ts
+line_is s a b z ts x y e f g h k =
+    e ∙ (f ∙ (ap (λ (l : List ℕ). l ++ ts) g ∙ ap₂ (λ (l : List ℕ) (n : ℕ). (l ++ n ∷ []) ++ ts) h k))
+
+pub terms_length : (h : Held) (i n : ℕ) → length (held_terms h i n) ≡ n
+terms_length h i zero = refl
+terms_length h i (suc n) = ap suc (terms_length h (suc i) n)

@@ -1,6 +1,6 @@
 -- Words that are cut into pieces.
 use Rattle.std.proofs.Common.{◌≡◌, ℕ, zero, suc, ◌+◌, ◌-◌, ◌<◌, ◌≤◌, List, [], ◌∷◌, ◌++◌, length, take, drop, refl, sym, ap, ◌∙◌, subst}
-use Rattle.std.proofs.Common.{inr, ⊎_elim, arith, zero-add, Some, None}
+use Rattle.std.proofs.Common.{inr, ⊎_elim, arith, zero-add, append_assoc, Some, None}
 use Rattle.std.proofs.lemmas.List.{take-append-le, drop-append-le, length-take-le, length-drop, length-append}
 use Rattle.std.proofs.lemmas.Bool.{cases_lt}
 use Rattle.std.specs.Prelude.{slice_get}
@@ -9,6 +9,7 @@ use Rattle.word_states.specs.Words.{first_of, row}
 use Rattle.word_states.specs.Pieces.{rows}
 use Rattle.word_states.proofs.Lists.{word_at-append, row_none, row_in, get_of}
 use Rattle.trial_laws.specs.AtHand.{end_of}
+use Rattle.trial_laws.specs.Laws.{places_for}
 use Rattle.trial_machine.specs.Cuts.{cut, total}
 use Rattle.trial_laws.proofs.Pieces.{none_low}
 use Rattle.trial_machine.specs.Besides.{own_at}
@@ -114,3 +115,19 @@ flat ns ws ps e is a = ⊎_elim
     (λ (l : 4000000000 ≤ a). own_high ws a l ∙ (sym (rows_flat ns ws 4000000000 a e l)
     ∙ ap (λ (p : List (List ℕ)). word_at (rows 4000000000 p) a) is))
     (cases_lt a 4000000000)
+
+-- one place more
+pub places_more : (n : ℕ) → places_for (n + 1) ≡ places_for n ++ (0 ∷ 0 ∷ []) ∷ []
+places_more n = ap places_for (plus n) ∙ last n
+  where
+    plus : (n : ℕ) → n + 1 ≡ suc n
+    plus n = omega arith
+
+    last : (n : ℕ) → places_for (suc n) ≡ places_for n ++ (0 ∷ 0 ∷ []) ∷ []
+    last zero = refl
+    last (suc n) = ap (λ (l : List (List ℕ)). (0 ∷ 0 ∷ []) ∷ l) (last n)
+
+pub places_put : (ps qs rs : List (List ℕ)) (n : ℕ) → qs ≡ ps ++ places_for n → rs ≡ qs ++ (0 ∷ 0 ∷ []) ∷ [] → rs ≡ ps ++ places_for (n + 1)
+places_put ps qs rs n e f =
+    f ∙ (ap (λ (l : List (List ℕ)). l ++ (0 ∷ 0 ∷ []) ∷ []) e
+    ∙ (append_assoc ps (places_for n) ((0 ∷ 0 ∷ []) ∷ []) ∙ ap (λ (l : List (List ℕ)). ps ++ l) (sym (places_more n))))

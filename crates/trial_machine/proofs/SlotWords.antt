@@ -1,12 +1,13 @@
 -- The words of slots, after one was put and after a new try begins.
-use Rattle.std.proofs.Common.{◌≡◌, ℕ, zero, suc, ◌+◌, ◌<◌, ◌≤◌, Bool, true, false, cond, List, [], ◌∷◌, length, take, refl, sym, ap, ap₂}
+use Rattle.std.proofs.Common.{◌≡◌, ℕ, zero, suc, ◌+◌, ◌<◌, ◌≤◌, Bool, true, false, cond, List, [], ◌∷◌, ◌++◌, length, take, refl, sym, ap}
+use Rattle.std.proofs.Common.{ap₂}
 use Rattle.std.proofs.Common.{◌∙◌, subst, arith}
-use Rattle.std.proofs.Common.{true≢false, Option, Some, None}
+use Rattle.std.proofs.Common.{true≢false, append_assoc, Option, Some, None}
 use Rattle.std.specs.Prelude.{slice_get, slice_set, nat_eq, unwrap_or}
 use Rattle.std.proofs.Math.Path.{fun_ext}
 use Rattle.std.proofs.lemmas.Bool.{eqb-true, eq-eqb, ne_eqb}
 use Rattle.trial_machine.specs.declared.slots.Slot.{Slot}
-use Rattle.trial_machine.specs.Held.{Held, held_word, held_operator, held_by, held_with, held_anew, NoneLater}
+use Rattle.trial_machine.specs.Held.{Held, held_word, held_operator, held_by, held_term, held_terms, held_with, held_anew, NoneLater}
 
 get_same : (xs : List Slot) (i : ℕ) (v : Slot) → i < length xs → slice_get (slice_set xs i v) i ≡ Some v
 get_same [] i v h = absurd (omega arith)
@@ -116,3 +117,32 @@ pub reset_all : (slots : List Slot) (n : ℕ) → length slots ≤ n → NoneLat
 reset_all [] n l h = tt
 reset_all (s ∷ slots) zero l h = absurd (omega arith)
 reset_all (s ∷ slots) (suc n) l h = (h.0, reset_all slots n (omega arith) h.1)
+
+pub later_last : (slots : List Slot) (s : Slot) (now : ℕ) → NoneLater slots now → s.stamp ≤ now → NoneLater (slots ++ s ∷ []) now
+later_last [] s now h l = (l, tt)
+later_last (x ∷ slots) s now h l = (h.0, later_last slots s now h.1 l)
+
+-- the terms of one slot more
+pub terms_more : (h : Held) (i n : ℕ) → held_terms h i (n + 1) ≡ held_terms h i n ++ held_term h (i + n) ∷ []
+terms_more h i n = ap (held_terms h i) (plus n) ∙ last i n
+  where
+    plus : (n : ℕ) → n + 1 ≡ suc n
+    plus n = omega arith
+
+    last : (i n : ℕ) → held_terms h i (suc n) ≡ held_terms h i n ++ held_term h (i + n) ∷ []
+    last i zero = ap (λ (k : ℕ). held_term h k ∷ []) (none i)
+      where
+        none : (i : ℕ) → i ≡ i + 0
+        none i = omega arith
+    last i (suc n) =
+        ap (λ (l : List ℕ). held_term h i ∷ l) (last (suc i) n)
+        ∙ ap (λ (k : ℕ). held_term h i ∷ (held_terms h (suc i) n ++ held_term h k ∷ [])) (further i n)
+      where
+        further : (i n : ℕ) → suc i + n ≡ i + suc n
+        further i n = omega arith
+
+pub terms_put : (h : Held) (i n x : ℕ) (old line line' : List ℕ) → line ≡ old ++ held_terms h i n → x ≡ held_term h (i + n)
+    → line' ≡ line ++ x ∷ [] → line' ≡ old ++ held_terms h i (n + 1)
+terms_put h i n x old line line' e f g =
+    g ∙ (ap₂ (λ (l : List ℕ) (y : ℕ). l ++ y ∷ []) e f
+    ∙ (append_assoc old (held_terms h i n) (held_term h (i + n) ∷ []) ∙ ap (λ (l : List ℕ). old ++ l) (sym (terms_more h i n))))

@@ -1,7 +1,8 @@
 -- A desk as what a try has at hand.
-use Rattle.std.specs.Prelude.{◌≡◌, ℕ, Bool, List}
+use Rattle.std.specs.Prelude.{◌≡◌, ℕ, Bool, List, [], slice_get, unwrap_or}
 use Rattle.heap_words.specs.Trails.{WordList}
 use Rattle.trial_laws.specs.AtHand.{AtHand}
+use Rattle.trial_laws.specs.Laws.{begun}
 use Rattle.trial_machine.specs.Held.{Held, held}
 use Rattle.trial_machine.specs.declared.desk.Desk.{Desk}
 
@@ -26,3 +27,8 @@ hand d binds reads waits = at_hand d.clause d.next d.behind (held d.slots) d.pie
 -- what is at hand has become this, whatever the trail has
 abbrev pub Becomes : Desk → Desk → (AtHand → AtHand) → Type 0
 Becomes old new f = (binds : WordList) (reads waits : List ℕ) → hand new binds reads waits ≡ f (hand old binds reads waits)
+
+-- A try begins: what is at hand is what its law says, once the trail has nothing of this try. The slots hold the arguments.
+abbrev pub Begins : Desk → Desk → ℕ → ℕ → ℕ → Type 0
+Begins old new clause next vars = (binds : WordList) (reads waits : List ℕ) → hand new [] [] waits
+    ≡ begun (hand old binds reads waits) clause next vars (λ i. unwrap_or (slice_get old.slots.args i) 6)

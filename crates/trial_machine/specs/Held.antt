@@ -1,5 +1,6 @@
 -- What slots hold.
-use Rattle.std.specs.Prelude.{◌≤◌, ℕ, Bool, false, List, [], ◌∷◌, Option, Some, None, if◌then◌else◌, nat_eq, slice_get, unwrap_or}
+use Rattle.std.specs.Prelude.{◌≤◌, ℕ, zero, suc, Bool, false, List, [], ◌∷◌, Option, Some, None, if◌then◌else◌, nat_eq, slice_get}
+use Rattle.std.specs.Prelude.{unwrap_or}
 use Rattle.trial_machine.specs.declared.slots.Slot.{Slot}
 
 -- slots, the stamp of the try, and the words of the goal's arguments
@@ -38,6 +39,15 @@ held s = held_by s.slots s.stamp s.args
 abbrev pub NoneLater : List Slot → ℕ → Type 0
 NoneLater [] now = Unit {0}
 NoneLater (s ∷ slots) now = (s.stamp ≤ now) × NoneLater slots now
+
+-- a slot's word as a term
+abbrev pub held_term : Held → ℕ → ℕ
+held_term h i = if h.operators i then 6 else h.words i
+
+-- so many of them, from a slot on
+abbrev pub held_terms : Held → ℕ → ℕ → List ℕ
+held_terms h i zero = []
+held_terms h i (suc n) = held_term h i ∷ held_terms h (suc i) n
 
 -- a slot takes a word
 abbrev pub held_with : Held → ℕ → ℕ → Bool → Held

@@ -3,7 +3,7 @@ use crate::pieces::Pieces;
 use crate::slots::Slots;
 
 /// The slots and the pieces of a try, the number of its clause, where the trial goes on if it does not succeed, and whether all
-/// tries before it failed.
+/// tries before it failed; and a list in which the words of a piece are gathered.
 #[derive(Drop)]
 pub struct Desk {
     pub slots: Slots,
@@ -11,4 +11,5 @@ pub struct Desk {
     pub clause: u32,
     pub next: u32,
     pub behind: bool,
+    pub line: Vec<u64>,
 }

@@ -1,8 +1,10 @@
 //! The machine that follows compiled code over words.
 #![tactic(auto)]
 
+mod begin;
 mod beside;
 mod desk;
+mod get;
 mod pieces;
 mod put;
 mod slots;

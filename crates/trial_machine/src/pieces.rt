@@ -3,7 +3,7 @@ ghost use Rattle.std.specs.Prelude.{◌≡◌, ◌++◌, ◌+◌, ◌-◌, ◌<�
 ghost use Rattle.heap_words.specs.Trails.{word_at};
 ghost use Rattle.word_states.specs.Pieces.{rows, StartsAt};
 ghost use Rattle.trial_laws.specs.AtHand.{end_of, ArePieces};
-ghost use Rattle.trial_laws.specs.Laws.{IsFilled};
+ghost use Rattle.trial_laws.specs.Laws.{IsFilled, places_for};
 ghost use Rattle.trial_machine.specs.Besides.{own_at};
 
 use fcp_model::NoMemory;
@@ -115,5 +115,15 @@ impl Pieces {
         ensures { IsFilled (addr - 1) word self.old self.new }
     {
         self.words[(addr - OWN) as usize] = word;
+    }
+
+    /// Puts so many places after the other pieces: each a name and a word, both 0 so far.
+    pub fn put_places(&mut self, count: u8) -> Result<(), NoMemory>
+        ensures { OnOk result (self.new ≡ self.old ++ places_for count) }
+    {
+        for i in 0..count {
+            self.put(&[0, 0])?;
+        }
+        Ok(())
     }
 }

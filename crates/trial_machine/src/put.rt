@@ -4,10 +4,11 @@ ghost use Rattle.heap_words.specs.Cells.{encoded};
 ghost use Rattle.word_states.specs.Denoting.{operator_code};
 ghost use Rattle.trial_laws.specs.AtHand.{term_word, end_of};
 ghost use Rattle.trial_laws.specs.Laws.{holding};
-ghost use Rattle.trial_laws.specs.NewPieces.{next_piece, with_piece};
+ghost use Rattle.trial_laws.specs.NewPieces.{next_piece, with_piece, term_words};
 ghost use Rattle.trial_machine.specs.Desks.{Becomes};
 
 use crate::desk::Desk;
+use crate::slots::put_word;
 use fcp_model::{ArithOp, NoMemory};
 use heap_words::{Cell, encode};
 
@@ -81,6 +82,23 @@ impl Desk {
         let piece = [low];
         let at = self.pieces.put(&piece)?;
         self.slots.hold(slot, encode(Cell::Wide(at, high)), false);
+        Ok(())
+    }
+
+    /// A slot takes a new tuple of so many slots' terms.
+    pub fn put_tuple(&mut self, slot: u32, first: u32, parts: u32) -> Result<(), NoMemory>
+        requires slot { slot < length self.old.slots.slots }
+        requires range { first + parts < 4294967296 }
+        ensures becomes { OnOk result (Becomes self.old self.new (λ r. holding
+            (with_piece r (encoded (Cell.Raw parts) ∷ term_words r first parts)) slot (encoded (Cell.Tuple (next_piece r))) false)) }
+        ensures room { OnOk result (end_of 4000000000 self.old.pieces + suc parts ≤ 4294967296) }
+        ensures count { OnOk result (length self.new.slots.slots ≡ length self.old.slots.slots) }
+    {
+        self.line.clear();
+        put_word(&mut self.line, encode(Cell::Raw(parts)))?;
+        self.slots.terms(&mut self.line, first, parts)?;
+        let at = self.pieces.put(self.line.as_slice())?;
+        self.slots.hold(slot, encode(Cell::Tuple(at)), false);
         Ok(())
     }
 }

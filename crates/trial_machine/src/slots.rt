@@ -1,6 +1,6 @@
 //! The slots of a try. Each has the stamp of the try in which a word was put into it, so a new try resets them all at once.
-ghost use Rattle.std.specs.Prelude.{◌≡◌, ◌<◌, ◌++◌, [], ◌∷◌, length, MatchResult, if◌then◌else◌, unwrap_or, slice_get};
-ghost use Rattle.trial_machine.specs.Held.{held, held_with, held_anew, NoneLater};
+ghost use Rattle.std.specs.Prelude.{◌≡◌, ◌+◌, ◌<◌, ◌++◌, [], ◌∷◌, length, IfOk, OnOk, MatchResult, if◌then◌else◌, unwrap_or, slice_get};
+ghost use Rattle.trial_machine.specs.Held.{held, held_terms, held_with, held_anew, NoneLater};
 
 use fcp_model::NoMemory;
 use std::alloc::Global;
@@ -53,6 +53,26 @@ fn argument_at(args: &[u64], at: u32) -> u64
     }
 }
 
+/// Puts a slot after the others.
+fn put_slot(slots: &mut Vec<Slot>, slot: Slot) -> Result<(), NoMemory>
+    ensures { OnOk result (slots.new.items ≡ slots.old.items ++ slot ∷ []) }
+{
+    match slots.push(slot) {
+        Ok(()) => Ok(()),
+        Err(_) => Err(NoMemory),
+    }
+}
+
+/// Puts a word after the others of a list.
+pub(crate) fn put_word(line: &mut Vec<u64>, word: u64) -> Result<(), NoMemory>
+    ensures { OnOk result (line.new.items ≡ line.old.items ++ word ∷ []) }
+{
+    match line.push(word) {
+        Ok(()) => Ok(()),
+        Err(_) => Err(NoMemory),
+    }
+}
+
 /// Gives all slots the first stamp.
 fn reset(slots: &mut [Slot])
     ensures { NoneLater slots.new 0 }
@@ -67,6 +87,26 @@ fn reset(slots: &mut [Slot])
 }
 
 impl Slots {
+    /// So many slots, and no arguments.
+    pub fn make(alloc: Global, count: u32) -> Result<Slots, NoMemory>
+        ensures { IfOk result (λ s. length s.slots ≡ count) }
+    {
+        let mut slots = Vec::new(alloc);
+        for i in 0..count {
+            let slot = Slot {
+                word: NIL,
+                stamp: 0,
+                operation: false,
+            };
+            put_slot(&mut slots, slot)?;
+        }
+        Ok(Slots {
+            slots,
+            stamp: 0,
+            args: Vec::new(alloc),
+        })
+    }
+
     /// The word of a slot.
     pub fn content(&self, slot: u32) -> u64
         ensures { result ≡ (held self.now).words slot }
@@ -104,6 +144,17 @@ impl Slots {
         } else {
             self.content(slot)
         }
+    }
+
+    /// Puts the words of so many slots as terms after the other words of a list.
+    pub fn terms(&self, line: &mut Vec<u64>, first: u32, count: u32) -> Result<(), NoMemory>
+        requires { first + count < 4294967296 }
+        ensures { OnOk result (line.new.items ≡ line.old.items ++ held_terms (held self.now) first count) }
+    {
+        for i in 0..count {
+            put_word(line, self.term(first + i))?;
+        }
+        Ok(())
     }
 
     /// Puts a word into a slot.

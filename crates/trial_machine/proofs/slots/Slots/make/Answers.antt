@@ -1,0 +1,20 @@
+use Rattle.std.proofs.Common.{◌≡◌, ◌++◌, ◌∷◌, [], length, false, sym, ap, subst, arith}
+use Rattle.std.proofs.lemmas.List.{length-append}
+use Rattle.trial_machine.specs.declared.slots.Slot.{Slot}
+use Rattle.std.proofs.Common.{List}
+use Rattle.trial_machine.specs.Held.{NoneLater}
+use Rattle.trial_machine.proofs.SlotWords.{later_last}
+use Rattle.trial_machine.proofs.slots.Slots.make.Goals as goal
+
+pub loop-i-preserved : goal.loop-i-preserved
+loop-i-preserved c =
+    let put : c.put_slot.new.slots.items ≡ c.loop-i.slots.items ++ (record { word = 6; stamp = 0; operation = false }) ∷ [] =
+    c.in_ok-put_slot.ensures in (
+      omega (
+        arith,
+        ap length put,
+        length-append c.loop-i.slots.items ((record { word = 6; stamp = 0; operation = false }) ∷ []),
+        c.loop-i.invariant.0,
+      ),
+      subst (λ (l : List Slot). NoneLater l 0) (sym put) (later_last c.loop-i.slots.items _ 0 c.loop-i.invariant.1 (omega arith)),
+    )
