@@ -1,0 +1,4 @@
+pub mod Filling
+pub mod Looking
+pub mod Putting
+pub mod Entries

@@ -1,0 +1,4 @@
+pub mod Laying
+pub mod Openings
+pub mod Writing
+pub mod Hangs
