@@ -2,6 +2,7 @@
 #![tactic(auto)]
 
 mod commit;
+mod follow;
 mod hang;
 mod moves;
 mod pieces;
@@ -9,6 +10,7 @@ mod rooms;
 mod written;
 
 pub use commit::put_commit;
+pub use follow::plans;
 pub use hang::put_hang;
 pub use moves::{goes_to, relocate};
 pub use rooms::{Room, lay};
