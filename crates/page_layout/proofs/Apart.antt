@@ -1,13 +1,13 @@
 -- Writes of which none has another's address.
-use Rattle.std.proofs.Common.{◌≡◌, ℕ, zero, suc, ◌+◌, ◌*◌, ◌<◌, ◌≤◌, Bool, true, false, cond, List, [], ◌∷◌, ◌++◌, length, slice_get}
-use Rattle.std.proofs.Common.{refl, sym, ap, ◌∙◌, subst, ⊎_elim, inl, inr, arith, Option, Some, None}
+use Rattle.std.proofs.Common.{◌≡◌, ℕ, zero, suc, ◌*◌, ◌<◌, Bool, true, false, cond, List, [], ◌∷◌, ◌++◌, slice_get}
+use Rattle.std.proofs.Common.{refl, sym, ap, subst, ⊎_elim, inl, inr, arith, Some, None}
 use Rattle.std.specs.Prelude.{nat_lt}
 use Rattle.std.proofs.lemmas.Bool.{lt-ltb, ltb-true}
 use Rattle.std.proofs.lemmas.Option.{same_Some}
 use Rattle.heap_words.specs.Cells.{encoded}
 use Rattle.heap_words.specs.Trails.{WordList}
 use Rattle.heap_words.specs.declared.cell.Cell.TheVariants.{Top}
-use Rattle.word_states.specs.Words.{Among, AreApart, row, IsIn, AreDistinct}
+use Rattle.word_states.specs.Words.{Among, AreApart, row, AreDistinct}
 use Rattle.word_states.specs.Planning.{moved_binds, ready_words}
 use Rattle.word_states.proofs.Lists.{among_either}
 use Rattle.word_state_laws.proofs.CommitPlans.{among_moved, among_ready, among_row}

@@ -1,6 +1,7 @@
 -- The writes of a commit whose pieces are laid are a plan, and may follow.
-use Rattle.std.proofs.Common.{◌≡◌, ℕ, zero, suc, ◌+◌, ◌-◌, ◌*◌, ◌<◌, ◌≤◌, Bool, true, false, cond, List, [], ◌∷◌, ◌++◌, length, map, slice_get}
-use Rattle.std.proofs.Common.{refl, sym, ap, ◌∙◌, subst, ⊎_elim, inl, inr, arith, true≢false, Option, Some, None}
+use Rattle.std.proofs.Common.{◌≡◌, ℕ, zero, suc, ◌+◌, ◌-◌, ◌*◌, ◌<◌, ◌≤◌, Bool, true, false, cond, List, [], ◌∷◌, ◌++◌, length, map}
+use Rattle.std.proofs.Common.{slice_get}
+use Rattle.std.proofs.Common.{refl, sym, ap, ◌∙◌, subst, ⊎_elim, inl, inr, arith, true≢false, Some, None}
 use Rattle.std.proofs.lemmas.Bool.{cases_lt}
 use Rattle.std.proofs.lemmas.List.{length-map}
 use Rattle.std.proofs.lemmas.Option.{slice_get_within}
@@ -11,7 +12,7 @@ use Rattle.heap_words.proofs.Encodings.{decoded_encoded}
 use Rattle.heap_words.specs.declared.cell.Cell.{Cell}
 use Rattle.heap_words.specs.declared.cell.Cell.TheVariants.{Unbound, Status, Top}
 use Rattle.heap_words.specs.declared.cell.Stand.TheVariants.{Ready, Waiting}
-use Rattle.word_states.specs.Words.{Words, At, Among, AreApart, row, IsIn}
+use Rattle.word_states.specs.Words.{Words, At, Among, AreApart, row}
 use Rattle.word_states.specs.Pieces.{is_place, is_process}
 use Rattle.word_states.specs.Layouts.{moved, laid_place, laid_process, laid_piece, next_place, next_process}
 use Rattle.word_states.specs.Planning.{laid_rows, moved_binds, ready_words, commit_writes, AreWhole, TopsForTops, IsPlanned}
@@ -62,14 +63,18 @@ written_at : (f : ℕ → ℕ) (n k i b j : ℕ) (ps : List (List ℕ)) → AreN
 written_at f n k i b j [] na w h = absurd (omega arith)
 written_at f n k i b j (p ∷ ps) na w h = ⊎_elim
     (λ (l : j < length p).
-    let r = in_row_at (f b) j (laid_piece f n k i p) (let e = laid_size f n k i p na.0 in omega arith) in
-    (r.0, among_left (row (f b) (laid_piece f n k i p)) _ (f (b + j), r.0)
-      (subst (λ (a : ℕ). Among (row (f b) (laid_piece f n k i p)) (a, r.0)) (sym (w.0 j l)) r.1)))
+    let r = in_row_at (f b) j (laid_piece f n k i p) (let e = laid_size f n k i p na.0 in omega arith) in (
+      r.0,
+      among_left (row (f b) (laid_piece f n k i p)) _ (f (b + j), r.0)
+          (subst (λ (a : ℕ). Among (row (f b) (laid_piece f n k i p)) (a, r.0)) (sym (w.0 j l)) r.1),
+    ))
     (λ (l : length p ≤ j).
     let r = written_at f n (next_place k p) (next_process i p) (b + length p) (j - length p) ps na.1 w.1 (omega arith) in
-    let e : b + length p + (j - length p) ≡ b + j = omega arith in
-    (r.0, among_right (row (f b) (laid_piece f n k i p)) _ (f (b + j), r.0)
-      (subst (λ (a : ℕ). Among (laid_rows f n (next_place k p) (next_process i p) (b + length p) ps) (f a, r.0)) e r.1)))
+    let e : b + length p + (j - length p) ≡ b + j = omega arith in (
+      r.0,
+      among_right (row (f b) (laid_piece f n k i p)) _ (f (b + j), r.0)
+          (subst (λ (a : ℕ). Among (laid_rows f n (next_place k p) (next_process i p) (b + length p) ps) (f a, r.0)) e r.1),
+    ))
     (cases_lt j (length p))
 
 -- two cells, or a cell and none, do not stand at one address
@@ -84,9 +89,14 @@ pub tops_rise : (rooms : List Room) (w : Words) → AreRooms rooms → AreTops r
 tops_rise rooms w are tops a x h =
     let r = in_tops rooms a x h in
     let t : At w a (Top r.1.old) = subst (λ (b : ℕ). At w b (Top r.1.old)) (sym r.4) (tops r.0 r.1 r.2) in
-    let room = are.each r.0 r.1 r.2 in
-    (t.0, r.1.old, r.1.top, t.1, t.2,
-      ap decoded r.5 ∙ decoded_encoded (Top r.1.top) (let a = room.within in let b = room.small in omega arith))
+    let room = are.each r.0 r.1 r.2 in (
+      t.0,
+      r.1.old,
+      r.1.top,
+      t.1,
+      t.2,
+      ap decoded r.5 ∙ decoded_encoded (Top r.1.top) (let a = room.within in let b = room.small in omega arith),
+    )
 
 pub top_replaces : (rooms : List Room) (w : Words) (a y : ℕ) → AreTops rooms w → Among (tops_of rooms) (a, y) → Replaces rooms w a y
 top_replaces rooms w a y tops m =
@@ -162,11 +172,11 @@ module _ (rooms : List Room) (table sizes : List ℕ) (laid : IsLaid rooms table
       let r = among_moved (moved_to table) binds a x s in
       let u = finds.bound a r.0 r.1 in
       ⊎_elim
-          (λ (v : Among (ready_words wakes) (a, y)).
-          not_woken a y (Unbound u.0) u.1 (λ m e. let bad : Unbound u.0 ≡ Status (Waiting m) = e in cc) v)
-          (λ (v : Among (tops_of rooms ++ pieces) (a, y)).
-          not_later a y (Unbound u.0) u.1 (λ m e. let bad : Unbound u.0 ≡ Top m = e in cc) v)
-          (among_either (ready_words wakes) (tops_of rooms ++ pieces) (a, y) t))
+      (λ (v : Among (ready_words wakes) (a, y)).
+      not_woken a y (Unbound u.0) u.1 (λ m e. let bad : Unbound u.0 ≡ Status (Waiting m) = e in cc) v)
+      (λ (v : Among (tops_of rooms ++ pieces) (a, y)).
+      not_later a y (Unbound u.0) u.1 (λ m e. let bad : Unbound u.0 ≡ Top m = e in cc) v)
+      (among_either (ready_words wakes) (tops_of rooms ++ pieces) (a, y) t))
 
   apart_all : AreApart (commit_writes (moved_to table) n p binds ps wakes (tops_of rooms))
   apart_all = (
@@ -208,10 +218,12 @@ module _ (rooms : List Room) (table sizes : List ℕ) (laid : IsLaid rooms table
       let i = laid.full k t r e lo hi in
       let lt : i.0 < words_of ps =
       (let s = laid.size in let z = slice_get_within table i.0 t i.1 in let v = sized_total ps sizes sized in omega arith) in
-      let x = written_at (moved_to table) n 1 1 4000000000 i.0 ps named whole lt in
-      (x.0, inr (among_right (moved_binds (moved_to table) binds) _ (t, x.0) (among_right (ready_words wakes) _ (t, x.0)
-        (among_right (tops_of rooms) _ (t, x.0)
-        (subst (λ (b : ℕ). Among (laid_rows (moved_to table) n 1 1 4000000000 ps) (b, x.0)) (moved_at table i.0 t i.1) x.1)))))
+      let x = written_at (moved_to table) n 1 1 4000000000 i.0 ps named whole lt in (
+        x.0,
+        inr (among_right (moved_binds (moved_to table) binds) _ (t, x.0) (among_right (ready_words wakes) _ (t, x.0)
+            (among_right (tops_of rooms) _ (t, x.0)
+            (subst (λ (b : ℕ). Among (laid_rows (moved_to table) n 1 1 4000000000 ps) (b, x.0)) (moved_at table i.0 t i.1) x.1)))),
+      )
 
   put : (k : ℕ) (r : Room) → slice_get rooms k ≡ Some r → r.old < r.top
       → Among (commit_writes (moved_to table) n p binds ps wakes (tops_of rooms)) (1024 * r.page, encoded (Top r.top))

@@ -1,5 +1,6 @@
 -- The heads and the entries of a hang, place by place.
-use Rattle.std.proofs.Common.{◌≡◌, ℕ, zero, suc, ◌+◌, ◌*◌, Bool, true, false, cond, List, [], ◌∷◌, ◌++◌, refl, sym, ap, ◌∙◌, subst, inl, inr, arith, append_assoc}
+use Rattle.std.proofs.Common.{◌≡◌, ℕ, zero, suc, ◌+◌, ◌*◌, Bool, true, false, cond, List, [], ◌∷◌, ◌++◌, refl, sym, ap, ◌∙◌, subst, inl}
+use Rattle.std.proofs.Common.{inr, arith, append_assoc}
 use Rattle.std.specs.Prelude.{nat_eq}
 use Rattle.std.proofs.lemmas.Bool.{eqb-true, eq-eqb}
 use Rattle.heap_words.specs.Cells.{encoded}
@@ -24,7 +25,8 @@ entry_after : (table : List ℕ) (i : ℕ) (l : ℕ × ℕ) (ls : WordList) (a x
     → entry_in table i (l ∷ ls) a ≡ entry_in table (i + 3) ls a
 entry_after table i l ls a x p h = go (nat_eq l.0 a) refl
   where
-    go : (t : Bool) → nat_eq l.0 a ≡ t → cond t (moved_to table (4000000000 + i)) (entry_in table (i + 3) ls a) ≡ entry_in table (i + 3) ls a
+    go : (t : Bool) → nat_eq l.0 a ≡ t → cond t (moved_to table (4000000000 + i)) (entry_in table (i + 3) ls a) ≡ entry_in table
+        (i + 3) ls a
     go true e = absurd (p.0 x (subst (λ (b : ℕ). Among ls (b, x)) (sym (eqb-true l.0 a e)) h))
     go false e = refl
 
@@ -40,7 +42,8 @@ gives_here : (table : List ℕ) (i : ℕ) (l : ℕ × ℕ) (ls : WordList) (f : 
     → moved_to table (4000000000 + i) ≡ f l.0
 gives_here table i l ls f g = sym (g l.0 l.1 (inl refl) ∙ entry_here table i l ls)
 
-heads_by : (table : List ℕ) (i : ℕ) (ls : WordList) (f : ℕ → ℕ) → AreApart ls → GivesEntries table i ls f → heads_at table i ls ≡ head_words f ls
+heads_by : (table : List ℕ) (i : ℕ) (ls : WordList) (f : ℕ → ℕ) → AreApart ls → GivesEntries table i ls f
+    → heads_at table i ls ≡ head_words f ls
 heads_by table i [] f p g = refl
 heads_by table i (l ∷ ls) f p g =
     ap (λ (e : ℕ). (l.0, encoded (Unbound e)) ∷ heads_at table (i + 3) ls) (gives_here table i l ls f g)
@@ -58,7 +61,8 @@ entries_by table n p i (l ∷ ls) f q g =
 pub heads_are : (table : List ℕ) (ls : WordList) → AreApart ls → heads_at table 0 ls ≡ head_words (entry_of table ls) ls
 heads_are table ls p = heads_by table 0 ls (entry_of table ls) p (λ a x h. refl)
 
-pub entries_are : (table : List ℕ) (n p : ℕ) (ls : WordList) → AreApart ls → entries_at table n p 0 ls ≡ entry_rows (entry_of table ls) n p ls
+pub entries_are : (table : List ℕ) (n p : ℕ) (ls : WordList) → AreApart ls
+    → entries_at table n p 0 ls ≡ entry_rows (entry_of table ls) n p ls
 entries_are table n p ls q = entries_by table n p 0 ls (entry_of table ls) q (λ a x h. refl)
 
 -- the writes of a hang, put in turn

@@ -1,6 +1,7 @@
 -- The writes of a hang whose entries are laid are a plan, and may follow.
-use Rattle.std.proofs.Common.{◌≡◌, ◌⊎◌, ℕ, zero, suc, ◌+◌, ◌-◌, ◌*◌, ◌<◌, ◌≤◌, Bool, true, false, cond, List, [], ◌∷◌, ◌++◌, length, slice_get}
-use Rattle.std.proofs.Common.{refl, sym, ap, ◌∙◌, subst, ⊎_elim, inl, inr, arith, true≢false, Option, Some, None}
+use Rattle.std.proofs.Common.{◌≡◌, ◌⊎◌, ℕ, ◌+◌, ◌-◌, ◌*◌, ◌<◌, ◌≤◌, Bool, true, false, cond, List, [], ◌∷◌, ◌++◌, length}
+use Rattle.std.proofs.Common.{slice_get}
+use Rattle.std.proofs.Common.{refl, sym, ap, ◌∙◌, subst, ⊎_elim, inl, inr, arith, true≢false, Some, None}
 use Rattle.std.specs.Prelude.{nat_eq}
 use Rattle.std.proofs.lemmas.Bool.{cases_lt, eq-eqb}
 use Rattle.std.proofs.lemmas.Option.{same_Some, slice_get_within}
@@ -12,7 +13,7 @@ use Rattle.heap_words.specs.declared.cell.Cell.TheVariants.{Unbound, Status, Top
 use Rattle.heap_words.specs.declared.cell.Stand.TheVariants.{Ready, Waiting}
 use Rattle.word_states.specs.Words.{Words, At, Among, AreApart, row}
 use Rattle.word_states.specs.Layouts.{entry_words}
-use Rattle.word_states.specs.Planning.{head_words, entry_rows, hang_writes, IsHangPlanned}
+use Rattle.word_states.specs.Planning.{head_words, hang_writes, IsHangPlanned}
 use Rattle.word_states.specs.Writing.{MayWrite}
 use Rattle.word_states.proofs.Lists.{among_left, among_right, among_either, get_of}
 use Rattle.word_states.proofs.Persisting.{one_cell}
@@ -42,9 +43,11 @@ module _ (table : List ℕ) where
   From i ls = StayWhole (moved_to table) (4000000000 + i) (threes (length ls)) × (i + 3 * length ls ≡ length table)
 
   from_next : (i : ℕ) (l : ℕ × ℕ) (ls : WordList) → From i (l ∷ ls) → From (i + 3) ls
-  from_next i l ls h =
-      (subst (λ (b : ℕ). StayWhole (moved_to table) b (threes (length ls)))
-      (let e : 4000000000 + i + 3 ≡ 4000000000 + (i + 3) = omega arith in e) h.0.1, (let e = h.1 in omega arith))
+  from_next i l ls h = (
+    subst (λ (b : ℕ). StayWhole (moved_to table) b (threes (length ls)))
+        (let e : 4000000000 + i + 3 ≡ 4000000000 + (i + 3) = omega arith in e) h.0.1,
+    (let e = h.1 in omega arith),
+  )
 
   -- each word of an entry has its address in the table
   word_index : (i d : ℕ) (l : ℕ × ℕ) (ls : WordList) → From i (l ∷ ls) → d < 3
@@ -92,9 +95,11 @@ module _ (table : List ℕ) where
       let r = in_row_at (moved_to table (4000000000 + i)) (j - i) (entry_words n p l.1) d in
       let same : i + (j - i) ≡ j = omega arith in
       let at : moved_to table (4000000000 + i) + (j - i) ≡ t =
-      same_Some _ t (sym (word_index i (j - i) l ls h d) ∙ ap (slice_get table) same ∙ e) in
-      (r.0, among_left (row (moved_to table (4000000000 + i)) (entry_words n p l.1)) _ (t, r.0)
-        (subst (λ (b : ℕ). Among (row (moved_to table (4000000000 + i)) (entry_words n p l.1)) (b, r.0)) at r.1)))
+      same_Some _ t (sym (word_index i (j - i) l ls h d) ∙ ap (slice_get table) same ∙ e) in (
+        r.0,
+        among_left (row (moved_to table (4000000000 + i)) (entry_words n p l.1)) _ (t, r.0)
+            (subst (λ (b : ℕ). Among (row (moved_to table (4000000000 + i)) (entry_words n p l.1)) (b, r.0)) at r.1),
+      ))
       (λ (ge : i + 3 ≤ j).
       let r = entry_at n p (i + 3) j ls t (from_next i l ls h) ge e in
       (r.0, among_right (row (moved_to table (4000000000 + i)) (entry_words n p l.1)) _ (t, r.0) r.1))
@@ -199,9 +204,10 @@ module _ (rooms : List Room) (table : List ℕ) (lists : WordList) (laid : IsLai
       let l = laid.taken (r.0 + d) (entry_of table lists a + d) at in
       let room = laid.pages.each l.0 l.1 l.2 in
       let lo = l.3 in
-      let hi = l.4 in
-      (none_there (r.0 + d) (entry_of table lists a + d) at,
-        ((let b = room.above in omega arith), (let b = room.within in let s = room.small in omega arith)))
+      let hi = l.4 in (
+        none_there (r.0 + d) (entry_of table lists a + d) at,
+        ((let b = room.above in omega arith), (let b = room.within in let s = room.small in omega arith)),
+      )
 
   pub hang_plan : p < 0x100000000 → n < 0x100000000 → IsHangPlanned (entry_of table lists) n p lists (tops_of rooms) w
   hang_plan small number = record {

@@ -1,5 +1,5 @@
 -- Where the words of laid pieces go.
-use Rattle.std.proofs.Common.{◌≡◌, ℕ, zero, suc, ◌+◌, ◌-◌, ◌*◌, ◌<◌, ◌≤◌, Bool, true, false, cond, List, [], ◌∷◌, ◌++◌, length, slice_get}
+use Rattle.std.proofs.Common.{◌≡◌, ℕ, ◌+◌, ◌-◌, ◌<◌, ◌≤◌, Bool, true, false, cond, List, [], ◌∷◌, length, slice_get}
 use Rattle.std.proofs.Common.{refl, sym, ap, ◌∙◌, subst, ⊎_elim, inl, inr, arith, Option, Some, None}
 use Rattle.std.specs.Prelude.{nat_lt, unwrap_or}
 use Rattle.std.proofs.lemmas.Bool.{cases_lt}
@@ -12,7 +12,7 @@ use Rattle.word_states.proofs.Lists.{get_of, row_in, word_at-append}
 use Rattle.word_states.proofs.Pieces.{in_rows, starts_above, rows_above}
 use Rattle.word_state_laws.proofs.CommitPlans.{among_row, laid_length, later_rows, own_of}
 use Rattle.page_layout.specs.declared.rooms.Room.{Room}
-use Rattle.page_layout.specs.Laying.{moved_to, total, IsLaid}
+use Rattle.page_layout.specs.Laying.{moved_to, IsLaid}
 use Rattle.page_layout.proofs.Filling.{moved_at, moved_old}
 use Rattle.page_layout.proofs.Sizes.{IsSized, words_of, sized_total}
 use Rattle.page_layout.proofs.Apart.{apart_append, apart_row}

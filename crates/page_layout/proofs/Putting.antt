@@ -1,5 +1,6 @@
 -- Writes are put one behind another.
-use Rattle.std.proofs.Common.{◌≡◌, ℕ, zero, suc, ◌+◌, ◌-◌, ◌*◌, ◌<◌, ◌≤◌, Bool, true, false, cond, List, [], ◌∷◌, ◌++◌, length, map, take, drop, refl, ap, ◌∙◌, arith, append_assoc}
+use Rattle.std.proofs.Common.{◌≡◌, ℕ, zero, suc, ◌+◌, ◌-◌, ◌*◌, ◌<◌, ◌≤◌, Bool, true, false, cond, List, [], ◌∷◌, ◌++◌, length, map}
+use Rattle.std.proofs.Common.{take, drop, refl, ap, ◌∙◌, arith, append_assoc}
 use Rattle.std.proofs.Common.{get_or, slice_get, Option, Some, ⊎_elim}
 use Rattle.std.specs.Prelude.{slice_index_or, nat_lt, unwrap_or}
 use Rattle.std.proofs.lemmas.Bool.{cases_lt, le-ltb}
@@ -23,15 +24,20 @@ map_last f (y ∷ ys) x = ap (λ l. f y ∷ l) (map_last f ys x)
 
 pub row_last : (a : ℕ) (xs : List ℕ) (x : ℕ) → row a (xs ++ x ∷ []) ≡ row a xs ++ (a + length xs, x) ∷ []
 row_last a [] x = ap (λ (b : ℕ). (b, x) ∷ []) (let e : a ≡ a + 0 = omega arith in e)
-row_last a (y ∷ ys) x = ap (λ (l : WordList). (a, y) ∷ l) (row_last (suc a) ys x ∙ ap (λ (b : ℕ). row (suc a) ys ++ (b, x) ∷ []) (let e : suc a + length ys ≡ a + suc (length ys) = omega arith in e))
+row_last a (y ∷ ys) x =
+    ap (λ (l : WordList). (a, y) ∷ l)
+    (row_last (suc a) ys x
+    ∙ ap (λ (b : ℕ). row (suc a) ys ++ (b, x) ∷ []) (let e : suc a + length ys ≡ a + suc (length ys) = omega arith in e))
 
 -- one more word
-pub moved_more : (f : ℕ → ℕ) (a i x : ℕ) (xs : List ℕ) → i < length xs → slice_index_or xs i 0 ≡ x → row a (map (moved f) (take (i + 1) xs)) ≡ row a (map (moved f) (take i xs)) ++ (a + i, moved f x) ∷ []
+pub moved_more : (f : ℕ → ℕ) (a i x : ℕ) (xs : List ℕ) → i < length xs → slice_index_or xs i 0 ≡ x
+    → row a (map (moved f) (take (i + 1) xs)) ≡ row a (map (moved f) (take i xs)) ++ (a + i, moved f x) ∷ []
 moved_more f a i x xs lt is =
     ap (λ (l : List ℕ). row a (map (moved f) l)) (take_more xs i 0 lt ∙ ap (λ (v : ℕ). take i xs ++ v ∷ []) is)
     ∙ ap (row a) (map_last (moved f) (take i xs) x)
     ∙ row_last a (map (moved f) (take i xs)) (moved f x)
-    ∙ ap (λ (b : ℕ). row a (map (moved f) (take i xs)) ++ (b, moved f x) ∷ []) (let e = length-map (take i xs) (moved f) in let d = size i xs (omega arith) in omega arith)
+    ∙ ap (λ (b : ℕ). row a (map (moved f) (take i xs)) ++ (b, moved f x) ∷ []) (let e = length-map (take i xs) (moved f) in let d =
+    size i xs (omega arith) in omega arith)
   where
     size : (i : ℕ) (xs : List ℕ) → i ≤ length xs → length (take i xs) ≡ i
     size zero xs h = refl
@@ -48,26 +54,41 @@ drop_end zero (x ∷ xs) h = absurd (omega arith)
 drop_end (suc i) [] h = refl
 drop_end (suc i) (x ∷ xs) h = drop_end i xs (omega arith)
 
-pub piece_put : (f : ℕ → ℕ) (n k i a : ℕ) (ws vs all : WordList) (p : List ℕ) (ps : List (List ℕ)) → vs ≡ ws ++ row (f a) (laid_piece f n k i p) → ws ++ laid_rows f n k i a (p ∷ ps) ≡ all → vs ++ laid_rows f n (next_place k p) (next_process i p) (a + length p) ps ≡ all
-piece_put f n k i a ws vs all p ps e h = ap (λ (l : WordList). l ++ laid_rows f n (next_place k p) (next_process i p) (a + length p) ps) e ∙ append_assoc ws (row (f a) (laid_piece f n k i p)) (laid_rows f n (next_place k p) (next_process i p) (a + length p) ps) ∙ h
+pub piece_put : (f : ℕ → ℕ) (n k i a : ℕ) (ws vs all : WordList) (p : List ℕ) (ps : List (List ℕ))
+    → vs ≡ ws ++ row (f a) (laid_piece f n k i p) → ws ++ laid_rows f n k i a (p ∷ ps) ≡ all
+    → vs ++ laid_rows f n (next_place k p) (next_process i p) (a + length p) ps ≡ all
+piece_put f n k i a ws vs all p ps e h =
+    ap (λ (l : WordList). l ++ laid_rows f n (next_place k p) (next_process i p) (a + length p) ps) e
+    ∙ append_assoc ws (row (f a) (laid_piece f n k i p)) (laid_rows f n (next_place k p) (next_process i p) (a + length p) ps) ∙ h
 
 -- a piece's new addresses are small
-pub base_small : (table : List ℕ) (first m : ℕ) → ((i t : ℕ) → slice_get table i ≡ Some t → t < 4000000000) → length table < 268435456 → first + m ≤ length table → moved_to table (4000000000 + first) + m < 4294967296
+pub base_small : (table : List ℕ) (first m : ℕ) → ((i t : ℕ) → slice_get table i ≡ Some t → t < 4000000000) → length table < 268435456
+    → first + m ≤ length table → moved_to table (4000000000 + first) + m < 4294967296
 base_small table first m low few fits = ⊎_elim
-    (λ (h : first < length table). let g = get_of table first h in let e = moved_at table first g.0 g.1 in let l = low first g.0 g.1 in omega arith)
-    (λ (h : length table ≤ first). let e : moved_to table (4000000000 + first) ≡ 4000000000 + first = ap (λ (t : Bool). cond t (4000000000 + first) (unwrap_or (slice_get table (4000000000 + first - 4000000000)) (4000000000 + first))) (let u : nat_lt (4000000000 + first) 4000000000 ≡ false = le-ltb (4000000000 + first) 4000000000 (omega arith) in u) ∙ ap (λ (o : Option ℕ). unwrap_or o (4000000000 + first)) (ap (slice_get table) (let u : 4000000000 + first - 4000000000 ≡ first = omega arith in u) ∙ slice_get_past table first h) in omega arith)
+    (λ (h : first < length table). let g = get_of table first h in let e = moved_at table first g.0 g.1 in let l = low first g.0 g.1 in
+    omega arith)
+    (λ (h : length table ≤ first). let e : moved_to table (4000000000 + first) ≡ 4000000000 + first =
+    ap (λ (t : Bool). cond t (4000000000 + first)
+    (unwrap_or (slice_get table (4000000000 + first - 4000000000)) (4000000000 + first)))
+    (let u : nat_lt (4000000000 + first) 4000000000 ≡ false = le-ltb (4000000000 + first) 4000000000 (omega arith) in u)
+    ∙ ap (λ (o : Option ℕ). unwrap_or o (4000000000 + first))
+    (ap (slice_get table) (let u : 4000000000 + first - 4000000000 ≡ first = omega arith in u) ∙ slice_get_past table first h) in
+    omega arith)
     (cases_lt first (length table))
 
 tops_both : (xs ys : List Room) → tops_of (xs ++ ys) ≡ tops_of xs ++ tops_of ys
 tops_both [] ys = refl
 tops_both (x ∷ xs) ys = go (nat_lt x.old x.top) (tops_both xs ys)
   where
-    go : (t : Bool) → tops_of (xs ++ ys) ≡ tops_of xs ++ tops_of ys → cond t ((1024 * x.page, encoded (Top x.top)) ∷ tops_of (xs ++ ys)) (tops_of (xs ++ ys)) ≡ cond t ((1024 * x.page, encoded (Top x.top)) ∷ tops_of xs) (tops_of xs) ++ tops_of ys
+    go : (t : Bool) → tops_of (xs ++ ys) ≡ tops_of xs ++ tops_of ys
+        → cond t ((1024 * x.page, encoded (Top x.top)) ∷ tops_of (xs ++ ys)) (tops_of (xs ++ ys)) ≡ cond t
+        ((1024 * x.page, encoded (Top x.top)) ∷ tops_of xs) (tops_of xs) ++ tops_of ys
     go true e = ap (λ (l : WordList). (1024 * x.page, encoded (Top x.top)) ∷ l) e
     go false e = e
 
 -- one more room
-pub tops_more : (rs : List Room) (i : ℕ) (d : Room) → i < length rs → tops_of (take (i + 1) rs) ≡ tops_of (take i rs) ++ tops_of (get_or rs i d ∷ [])
+pub tops_more : (rs : List Room) (i : ℕ) (d : Room) → i < length rs
+    → tops_of (take (i + 1) rs) ≡ tops_of (take i rs) ++ tops_of (get_or rs i d ∷ [])
 tops_more rs i d lt = ap tops_of (take_more rs i d lt) ∙ tops_both (take i rs) (get_or rs i d ∷ [])
 
 -- a process as it is laid, word by word

@@ -1,9 +1,10 @@
 -- Writes that put tops up and fill what they set free may follow over a heap.
-use Rattle.std.proofs.Common.{◌≡◌, ◌⊎◌, ℕ, zero, suc, ◌+◌, ◌-◌, ◌*◌, ◌/◌, ◌%◌, ◌<◌, ◌≤◌, Bool, true, false, cond, List, length, slice_get}
+use Rattle.std.proofs.Common.{◌≡◌, ◌⊎◌, ℕ, ◌+◌, ◌-◌, ◌*◌, ◌/◌, ◌%◌, ◌<◌, ◌≤◌, Bool, true, false, cond, List, length, slice_get}
 use Rattle.std.proofs.Common.{refl, sym, ap, ◌∙◌, subst, ⊎_elim, inl, inr, arith, Option, Some, None}
 use Rattle.std.specs.Prelude.{nat_eq, nat_lt, ◌||◌}
 use Rattle.std.specs.Option.{option_and_then}
-use Rattle.std.proofs.lemmas.Bool.{and_parts, and_from, or_cases, or_left, or_right, cases_lt, lt-ltb, ltb-true, eqb-true, eq-eqb, cond-false}
+use Rattle.std.proofs.lemmas.Bool.{and_parts, and_from, or_cases, or_left, or_right, cases_lt, lt-ltb, ltb-true, eqb-true, eq-eqb}
+use Rattle.std.proofs.lemmas.Bool.{cond-false}
 use Rattle.std.proofs.lemmas.Bool.{cases_Bool}
 use Rattle.std.proofs.lemmas.Option.{same_Some}
 use Rattle.heap_words.specs.Cells.{decoded, encoded, is_final_word, is_final_in, is_final_cell}
@@ -17,7 +18,7 @@ use Rattle.word_states.specs.Words.{Words, At, Among, AreApart}
 use Rattle.word_states.specs.Writing.{applied, MayWrite}
 use Rattle.word_states.proofs.Lists.{apart_word, word_among}
 use Rattle.page_layout.specs.declared.rooms.Room.{Room}
-use Rattle.page_layout.specs.Laying.{IsRoom, AreRooms}
+use Rattle.page_layout.specs.Laying.{AreRooms}
 use Rattle.page_layout.specs.Openings.{AreTops, AreFree}
 use Rattle.page_layout.proofs.Applied.{get_other, get_same, length_same}
 
@@ -55,7 +56,8 @@ inside_then vs a h =
 -- the words above the tops of a heap are free
 pub tops_free : (ws : List ℕ) (rooms : List Room) → AreRooms rooms → AreTops rooms (inside_at ws) → AreFree rooms (inside_at ws)
 tops_free ws rooms are tops k a r e lo hi =
-    cond-false _ _ _ (⊎_elim (λ (h : is_inside ws a ≡ true). absurd (no h)) (λ (h : is_inside ws a ≡ false). h) (cases_Bool (is_inside ws a)))
+    cond-false _ _ _ (⊎_elim (λ (h : is_inside ws a ≡ true). absurd (no h))
+    (λ (h : is_inside ws a ≡ false). h) (cases_Bool (is_inside ws a)))
   where
     no : is_inside ws a ≡ true → ⊥
     no h =

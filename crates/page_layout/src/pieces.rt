@@ -76,7 +76,8 @@ fn put_piece(
     requires room { base + length piece.now < 4294967296 }
     requires few { (place < 268435456) × (process < 268435456) }
     requires named { is_process piece.now ≡ true → 2 ≤ length piece.now }
-    ensures { OnOk result (Puts writes.old.items writes.new.items (λ n. row base (laid_piece (moved_to table.now) n place process piece.now))) }
+    ensures { OnOk result (Puts writes.old.items writes.new.items
+        (λ n. row base (laid_piece (moved_to table.now) n place process piece.now))) }
 {
     if is_place_piece(piece) {
         put(writes, base, ZERO + 16 * place as u64, ENTRY)?;

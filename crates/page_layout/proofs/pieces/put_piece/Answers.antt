@@ -25,6 +25,7 @@ returns-then-is_process_piece c n =
     (written n c.put-then-is_process_piece-2.new.writes.items) (written n c.put_moved-then-is_process_piece.new.writes.items)
     first (c.in_ok-put-3.ensures n) rest
     ∙ ap (λ (l : WordList). written n c.args.writes.now.items ++ l)
-    (sym (process_row f n c.args.place c.args.process c.args.base c.args.piece.now (sym c.is_place_piece.ensures ∙ c.if-is_place_piece.false)
+    (sym (process_row f n c.args.place c.args.process c.args.base c.args.piece.now
+    (sym c.is_place_piece.ensures ∙ c.if-is_place_piece.false)
     (sym c.is_process_piece.ensures ∙ c.if-is_process_piece.true)
     (c.requires.named (sym c.is_process_piece.ensures ∙ c.if-is_process_piece.true))))

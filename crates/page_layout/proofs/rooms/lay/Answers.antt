@@ -1,17 +1,31 @@
-use Rattle.std.proofs.Common.{◌≡◌, ◌+◌, ◌*◌, ◌∙◌, ◌≤◌, ℕ, List, ap, sym, refl, arith, length, take, set, slice_get, get_or, Some}
+use Rattle.std.proofs.Common.{subst, ◌≡◌, ◌+◌, ◌*◌, ◌∙◌, ◌≤◌, ℕ, List, ap, sym, refl, arith, length, take, set, slice_get, get_or, Some}
 use Rattle.std.proofs.lemmas.Grind.{common_steps}
 use Rattle.std.proofs.lemmas.List.{take_more}
 use Rattle.std.proofs.lemmas.Option.{slice_get_within, slice_get_read}
 use Rattle.page_layout.specs.declared.rooms.Room.{Room}
-use Rattle.page_layout.specs.Laying.{IsLaid}
+use Rattle.page_layout.specs.Laying.{IsLaid, WasLooked}
 use Rattle.page_layout.proofs.Filling.{piece_more}
-use Rattle.page_layout.proofs.Looking.{tops_on, filled_below, filled_tops, found_fits}
+use Rattle.page_layout.proofs.Looking.{tops_on, pages_join, filled_below, filled_tops, filled_looked, found_fits, in_there}
 use Rattle.page_layout.proofs.rooms.lay.Goals as goal
 
 pub returns-in_default-clause-tops : goal.returns-in_default-clause-tops
 returns-in_default-clause-tops g c =
     tops_on g.met.W.Words.laws c.args.words.now c.loop-need.words c.find.new.words c.loop-need.rooms.items c.find.new.rooms.items
     c.in_ok-found.seen c.loop-need.invariant.between c.find.ensures.between c.in_ok-found.ensures.looked.0 c.loop-need.invariant.tops
+
+pub returns-in_default-clause-full : goal.returns-in_default-clause-full
+returns-in_default-clause-full g c false_is =
+    let none = rw c.in_default.is at c.in_ok-found.ensures.lack in (
+      get_or c.args.sizes.now c.loop-need.need-index 0,
+      in_there c.args.sizes.now c.loop-need.need-index c.loop-need-test.true,
+      record {
+        looked = λ q lo hi. pages_join g.met.W.Words.laws c.args.words.now c.loop-need.words c.find.new.words c.loop-need.rooms.items
+            c.find.new.rooms.items c.args.from c.loop-need.next c.in_ok-found.seen c.loop-need.invariant.between c.find.ensures.between
+            c.in_ok-found.ensures.looked.0.kept c.loop-need.invariant.pages c.in_ok-found.ensures.pages q lo
+            (let e = none.0 in omega (arith, hi, e));
+        lack = none.1;
+      },
+    )
 
 pub index-room-requires : goal.index-room-requires
 index-room-requires g c =
@@ -58,6 +72,11 @@ loop-need-preserved g c =
           fits);
       below = λ k q e. filled_below c.find.new.rooms.items c.in-Some.at n c.in_ok-found.seen r at c.in_ok-found.ensures.looked.0.below k q
           (ap (λ (rs : List Room). slice_get rs k) (sym rooms) ∙ e);
+      pages = λ q lo hi. subst (λ (rs : List Room). WasLooked g.W.Words.gave c.args.words.now c.find.new.words rs q) (sym rooms)
+          (filled_looked g.W.Words.gave c.args.words.now c.find.new.words c.find.new.rooms.items c.in-Some.at n q r at
+          (pages_join g.met.W.Words.laws c.args.words.now c.loop-need.words c.find.new.words c.loop-need.rooms.items
+          c.find.new.rooms.items c.args.from c.loop-need.next c.in_ok-found.seen c.loop-need.invariant.between c.find.ensures.between
+          c.in_ok-found.ensures.looked.0.kept c.loop-need.invariant.pages c.in_ok-found.ensures.pages q lo hi));
       tops = λ k q e. filled_tops (g.W.Words.gave c.args.words.now c.find.new.words) c.find.new.rooms.items c.in-Some.at n r at
           (tops_on g.met.W.Words.laws c.args.words.now c.loop-need.words c.find.new.words c.loop-need.rooms.items c.find.new.rooms.items
           c.in_ok-found.seen c.loop-need.invariant.between c.find.ensures.between c.in_ok-found.ensures.looked.0
