@@ -1,0 +1,11 @@
+pub mod Filling
+pub mod Looking
+pub mod Putting
+pub mod Entries
+pub mod Apart
+pub mod Applied
+pub mod Writable
+pub mod Sizes
+pub mod Landing
+pub mod CommitWrites
+pub mod HangWrites

@@ -1,0 +1,208 @@
+//! Pieces go into pages by first fit.
+ghost use Rattle.std.specs.Prelude.{◌≡◌, ◌↔◌, ℕ, ◌+◌, ◌*◌, ◌<◌, ◌≤◌, true, false, IsTrue, IfOk, IfSome, IfNone, [], ◌∷◌, ◌++◌, length, slice_get, slice_set, Some, OnOk};
+ghost use Rattle.heap_words.specs.Cells.{decoded, encoded};
+ghost use Rattle.heap_words.specs.declared.cell.Cell.TheVariants.{Top};
+ghost use Rattle.page_layout.specs.declared.rooms.Room.{Room};
+ghost use Rattle.page_layout.specs.Laying.{run, IsRoom, IsLaid, IsTopOf, WasLooked, AllLack, AreFull, Looked};
+ghost use Rattle.word_states.specs.Words.{IsIn};
+
+use fcp_model::NoMemory;
+use heap_words::{Cell, Words, decode};
+
+/// How many words a page has.
+pub(crate) const PAGE: u32 = 1024;
+
+/// The words of a page that were free: those from `old` on, of which those below `top` are taken.
+#[derive(Clone, Copy, Debug, PartialEq, Eq)]
+pub struct Room {
+    pub page: u32,
+    pub old: u32,
+    pub top: u32,
+}
+
+/// Whether a room has so many free words.
+fn has(room: Room, need: u32) -> bool
+    requires { IsRoom room }
+    ensures { IsTrue result ↔ (room.top + need ≤ 1024 * room.page + 1024) }
+{
+    PAGE - (room.top - PAGE * room.page) >= need
+}
+
+/// The position of the first room that has so many free words.
+fn first_fit(rooms: &[Room], need: u32) -> Option<usize>
+    requires rooms { (k : ℕ) (r : Room) → slice_get rooms.now k ≡ Some r → IsRoom r }
+    ensures some { IfSome result (λ k. (r : Room) × (slice_get rooms.now k ≡ Some r) × (r.top + need ≤ 1024 * r.page + 1024)) }
+    ensures none { IfNone result (AllLack rooms.now need) }
+{
+    for at in 0..rooms.len() {
+        let room = rooms[at];
+        if has(room, need) {
+            return Some(at);
+        }
+    }
+    None
+}
+
+/// Takes words of the room at a position, one after another, for a piece.
+fn place(
+    rooms: &mut Vec<Room>,
+    table: &mut Vec<u32>,
+    at: usize,
+    room: Room,
+    need: u32,
+) -> Result<(), NoMemory>
+    requires is { slice_get rooms.old.items at ≡ Some room }
+    requires fits { room.top + need ≤ 1024 * room.page + 1024 }
+    requires small { room.page < 3906250 }
+    ensures table { OnOk result (table.new.items ≡ table.old.items ++ run room.top need) }
+    ensures rooms { OnOk result (rooms.new.items ≡ slice_set rooms.old.items at
+        (record { page = room.page; old = room.old; top = room.top + need })) }
+{
+    for step in 0..need {
+        if table.push(room.top + step).is_err() {
+            return Err(NoMemory);
+        }
+    }
+    rooms[at] = Room {
+        page: room.page,
+        old: room.old,
+        top: room.top + need,
+    };
+    Ok(())
+}
+
+/// The free words of a page, by its top; `None` where the first word is no top of this page.
+fn room_of<W: Words>(words: &mut W, page: u32) -> Option<Room>
+    requires sound { W.sound words.old }
+    requires small { page < 3906250 }
+    requires known { W.knows words.old (1024 * page) }
+    ensures between { W.later words.old words.new }
+    ensures room { IfSome result (λ r. IsRoom r × (r.page ≡ page) × (r.old ≡ r.top)
+        × W.gave words.old words.new (1024 * page) (encoded (Top r.old))) }
+    ensures none { IfNone result ((x : ℕ) × W.gave words.old words.new (1024 * page) x × (IsTopOf page (decoded x) → ⊥)) }
+{
+    let first = PAGE * page;
+    let word = words.load(first);
+    match decode(word) {
+        Some(Cell::Top(top)) => if top > first && top <= first + PAGE {
+            Some(Room {
+                page,
+                old: top,
+                top,
+            })
+        } else {
+            None
+        },
+        _ => None,
+    }
+}
+
+/// Puts a room at the end of a list, and answers its position.
+fn push_room(rooms: &mut Vec<Room>, room: Room) -> Result<usize, NoMemory>
+    ensures { IfOk result (λ k. (k ≡ length rooms.old.items) × (rooms.new.items ≡ rooms.old.items ++ room ∷ [])) }
+{
+    let at = rooms.len();
+    match rooms.push(room) {
+        Ok(()) => Ok(at),
+        Err(_) => Err(NoMemory),
+    }
+}
+
+/// Looks at a page, and answers the position of its room where that has so many free words.
+fn look<W: Words>(
+    words: &mut W,
+    rooms: &mut Vec<Room>,
+    page: u32,
+    need: u32,
+) -> Result<Option<usize>, NoMemory>
+    requires sound { W.sound words.old }
+    requires small { page < 3906250 }
+    requires known { W.knows words.old (1024 * page) }
+    requires rooms { (k : ℕ) (r : Room) → slice_get rooms.old.items k ≡ Some r → IsRoom r }
+    requires before { (k : ℕ) (r : Room) → slice_get rooms.old.items k ≡ Some r → r.page < page }
+    ensures between { W.later words.old words.new }
+    ensures looked { OnOk result (Looked W.gave words.old words.new rooms.old.items rooms.new.items (page + 1)) }
+    ensures page { OnOk result (WasLooked W.gave words.old words.new rooms.new.items page) }
+    ensures fits { IfOk result (λ f. IfSome f (λ k. (r : Room) × (slice_get rooms.new.items k ≡ Some r)
+        × (r.top + need ≤ 1024 * r.page + 1024))) }
+    ensures lack { IfOk result (λ f. IfNone f (AllLack rooms.old.items need → AllLack rooms.new.items need)) }
+{
+    let Some(room) = room_of(words, page) else {
+        return Ok(None);
+    };
+    let at = push_room(rooms, room)?;
+    if has(room, need) {
+        return Ok(Some(at));
+    }
+    Ok(None)
+}
+
+/// The first room that has so many free words, with the first page that was not looked at yet. Pages from `next` on are
+/// looked at where no page before them has the room.
+fn find<W: Words>(
+    words: &mut W,
+    rooms: &mut Vec<Room>,
+    next: u32,
+    pages: u32,
+    need: u32,
+) -> Result<(Option<usize>, u32), NoMemory>
+    requires sound { W.sound words.old }
+    requires small { pages ≤ 3906250 }
+    requires next { next ≤ pages }
+    requires known { (p : ℕ) → p < pages → W.knows words.old (1024 * p) }
+    requires rooms { (k : ℕ) (r : Room) → slice_get rooms.old.items k ≡ Some r → IsRoom r }
+    requires before { (k : ℕ) (r : Room) → slice_get rooms.old.items k ≡ Some r → r.page < next }
+    ensures between { W.later words.old words.new }
+    ensures looked { IfOk result (λ f. Looked W.gave words.old words.new rooms.old.items rooms.new.items f.1 × (f.1 ≤ pages)) }
+    ensures pages { IfOk result (λ f. (p : ℕ) → next ≤ p → p < f.1 → WasLooked W.gave words.old words.new rooms.new.items p) }
+    ensures fits { IfOk result (λ f. IfSome f.0 (λ k. (r : Room) × (slice_get rooms.new.items k ≡ Some r)
+        × (r.top + need ≤ 1024 * r.page + 1024))) }
+    ensures lack { IfOk result (λ f. IfNone f.0 ((f.1 ≡ pages) × AllLack rooms.new.items need)) }
+{
+    if let Some(at) = first_fit(rooms, need) {
+        return Ok((Some(at), next));
+    }
+    for page in next..pages {
+        if let Some(at) = look(words, rooms, page, need)? {
+            return Ok((Some(at), page + 1));
+        }
+    }
+    Ok((None, pages))
+}
+
+/// Lays pieces of these sizes into pages from `from` on, by first fit in ascending order, and answers whether all of them found room.
+/// A piece is never parted. What was in the two lists is dropped.
+pub fn lay<W: Words>(
+    words: &mut W,
+    rooms: &mut Vec<Room>,
+    table: &mut Vec<u32>,
+    from: u32,
+    pages: u32,
+    sizes: &[u32],
+) -> Result<bool, NoMemory>
+    requires sound { W.sound words.old }
+    requires small { pages ≤ 3906250 }
+    requires from { from ≤ pages }
+    requires known { (p : ℕ) → p < pages → W.knows words.old (1024 * p) }
+    ensures between { W.later words.old words.new }
+    ensures laid { IfOk result (λ t. t ≡ true → IsLaid rooms.new.items table.new.items sizes.now) }
+    // Where one of them found none, no page has so many free words, after those before it were laid.
+    ensures full { IfOk result (λ t. t ≡ false
+        → (n : ℕ) × IsIn n sizes.now × AreFull W.gave words.old words.new rooms.new.items from pages n) }
+    ensures tops { IfOk result (λ t. (k : ℕ) (r : Room) → slice_get rooms.new.items k ≡ Some r
+        → W.gave words.old words.new (1024 * r.page) (encoded (Top r.old))) }
+{
+    rooms.clear();
+    table.clear();
+    let mut next = from;
+    for &need in sizes {
+        let (found, seen) = find(words, rooms, next, pages, need)?;
+        next = seen;
+        let Some(at) = found else {
+            return Ok(false);
+        };
+        let room = rooms[at];
+        place(rooms, table, at, room, need)?;
+    }
+    Ok(true)
+}
