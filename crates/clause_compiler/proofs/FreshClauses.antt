@@ -20,8 +20,9 @@ module _ (code : List Op) where
       → ((υ : Tops) (q : ℕ) → IsFresh code (at + length xs) υ q) → (τ : Tops) (r : ℕ) → IsFresh code at τ r
   straight_fresh [] at st has next τ r = let e : at + 0 ≡ at = omega arith in moved code (at + 0) at τ r e (next τ r)
   straight_fresh (o ∷ os) at st has next τ r =
-      fresh_at code at τ r o has.0 (by o st.0 (straight_fresh os (suc at) st.1 has.1 (λ υ q. let e : at + length (o ∷ os) ≡ suc at + length os = omega arith in
-      moved code (at + length (o ∷ os)) (suc at + length os) υ q e (next υ q))))
+      let e : at + length (o ∷ os) ≡ suc at + length os = omega arith in
+      fresh_at code at τ r o has.0 (by o st.0 (straight_fresh os (suc at) st.1 has.1
+      (λ υ q. moved code (at + length (o ∷ os)) (suc at + length os) υ q e (next υ q))))
     where
       by : (o : Op) → IsStraight o → ((υ : Tops) (q : ℕ) → IsFresh code (suc at) υ q) → (n : ℕ) → FreshAt (FreshFor code n) at τ r (Some o)
       by (ins.Try k next) h g n = absurd h

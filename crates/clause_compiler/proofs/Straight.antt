@@ -46,7 +46,8 @@ mutual
   put_straight (var k) i n = (tt, tt)
   put_straight (ro k) i n = (tt, tt)
   put_straight (first k) i n = (tt, tt)
-  put_straight (cons a b) i n = both _ _ (put_straight a n (suc (suc n))) (both _ _ (put_straight b (suc n) (suc (suc (n + width a)))) (tt, tt))
+  put_straight (cons a b) i n =
+      both _ _ (put_straight a n (suc (suc n))) (both _ _ (put_straight b (suc n) (suc (suc (n + width a)))) (tt, tt))
   put_straight (tuple ts) i n = both _ _ (puts_straight ts n (n + count ts)) (tt, tt)
 
   pub puts_straight : (ts : Terms ℕ) (i n : ℕ) → AreStraight (puts i n ts)
@@ -61,7 +62,8 @@ leaves_straight : (e : Expr ℕ) (i n : ℕ) → AreStraight (put_leaves i n e)
 leaves_straight (leaf t) i n = put_straight t i n
 leaves_straight (op o a b) i n = both _ _ (leaves_straight a i n) (leaves_straight b (i + leaves a) n)
 
-pair_straight : (n : ℕ) (t u : Term ℕ) (o : Op) → IsStraight o → AreStraight (put n (suc (suc n)) t ++ (put (suc n) (suc (suc n)) u ++ o ∷ []))
+pair_straight : (n : ℕ) (t u : Term ℕ) (o : Op) → IsStraight o
+    → AreStraight (put n (suc (suc n)) t ++ (put (suc n) (suc (suc n)) u ++ o ∷ []))
 pair_straight n t u o h = both _ _ (put_straight t n (suc (suc n))) (both _ _ (put_straight u (suc n) (suc (suc n))) (h, tt))
 
 -- an expression over the slots of its leaves

@@ -175,8 +175,12 @@ module _ (code : List Op) where
         by true lt st has next =
             let above : met < k = ltb-true met k lt in
             let end : at + 1 ≡ suc at = omega arith in
-            fresh_at code at τ r (GetFirst i k) has.0 (λ m.
-            (omega (arith, e, above), omega (arith, le, above), next_at _ (suc at) n τ (max met k) end next τ k (λ j lt. refl) (le-max_right met k) m))
+            fresh_at code at τ r (GetFirst i k) has.0 (λ m. (
+              omega (arith, e, above),
+              omega (arith, le, above),
+              next_at _ (suc at) n τ (max met k) end next τ k (λ j lt. refl)
+                  (le-max_right met k) m,
+            ))
         by false lt st has next =
             ask_fresh (var k) at i n w τ r (max met k) h e (omega (arith, le, le-max_left met k)) (le-max_right met k) st has next
     get_fresh (cons a b) met at i n w τ r src h e le st has next =
@@ -190,7 +194,8 @@ module _ (code : List Op) where
         let has_inner = has_front code (suc at) (ga ++ gb) (Jump (to + length other) ∷ other) has.1 in
         let has_other = has_back code (suc at) (ga ++ gb) (Jump (to + length other) ∷ other) has.1 in
         let agree : AgreeBelow n υ τ =
-        λ j lt. top_other (topped τ n (τ i)) (suc n) j (τ i) (λ z. omega (arith, lt, z)) ∙ top_other τ n j (τ i) (λ z. omega (arith, lt, z)) in
+        λ j lt. top_other (topped τ n (τ i)) (suc n) j (τ i) (λ z. omega (arith, lt, z))
+        ∙ top_other τ n j (τ i) (λ z. omega (arith, lt, z)) in
         let left_zero : υ n ≡ 0 =
         top_other (topped τ n (τ i)) (suc n) n (τ i) (λ z. omega (arith, z)) ∙ top_here τ n (τ i) ∙ e in
         let right_zero : υ (suc n) ≡ 0 = top_here (topped τ n (τ i)) (suc n) (τ i) ∙ e in
@@ -277,7 +282,8 @@ module _ (code : List Op) where
       by false has next = get_fresh t met at i n unmade τ r src h e le tt has next
 
   -- the code of a head: the arguments stand in the slots below n, and have no tops
-  pub head_fresh : (ts : List (Term ℕ)) (met at i n : ℕ) (τ : Tops) (r : ℕ) → Each IsSourceTerm ts → i + length ts ≤ n → ((j : ℕ) → j < n → τ j ≡ 0) → r ≤ met
+  pub head_fresh : (ts : List (Term ℕ)) (met at i n : ℕ) (τ : Tops) (r : ℕ) → Each IsSourceTerm ts → i + length ts ≤ n
+      → ((j : ℕ) → j < n → τ j ≡ 0) → r ≤ met
       → HasAt code at (head_code at i n met ts)
       → ((υ : Tops) (q : ℕ) → IsFresh code (at + length (head_code at i n met ts)) υ q) → IsFresh code at τ r
   head_fresh [] met at i n τ r src h z le has next =

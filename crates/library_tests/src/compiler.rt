@@ -1,5 +1,5 @@
 //! Tests of `clause_compiler` and `machine_code`: the code of clauses and its listing, and clauses at the limits of the language.
-use clause_compiler::{Code, Instr, compile};
+use clause_compiler::{Code, compile};
 use fcp_loader::load;
 use fcp_model::Names;
 use fcp_reader::read_module;
@@ -84,9 +84,6 @@ w/2 at 58
 64 Jump to=4294967295
 ";
 
-/// The position at which a trial ends.
-const NOWHERE: Instr = Instr::Jump { to: 4294967295 };
-
 /// The code of a module's text.
 fn code_of(alloc: Global, text: &[u8], names: &mut Names) -> Result<Code, Fail> {
     if text.len() > 1_048_576 {
@@ -95,6 +92,32 @@ fn code_of(alloc: Global, text: &[u8], names: &mut Names) -> Result<Code, Fail> 
     let module = read_module(alloc, text, names)?;
     let loaded = load(alloc, module)?;
     Ok(compile(alloc, &loaded)?)
+}
+
+/// Whether the code of a module's text has this listing.
+fn is_listed(alloc: Global, text: &[u8], lines: &[u8]) -> Result<bool, Fail> {
+    let mut names = Names::make(alloc)?;
+    let code = code_of(alloc, text, &mut names)?;
+    let mut found = Vec::new(alloc);
+    listing(&mut found, &names, &code)?;
+    Ok(found.as_slice() == lines)
+}
+
+/// How many instructions code has, up to four million.
+fn count(code: &Code) -> u32 {
+    for at in 0..4_000_000 {
+        if code.instr(at).is_none() {
+            return at;
+        }
+    }
+    4_000_000
+}
+
+/// How many instructions a clause's text has.
+fn size_of(alloc: Global, text: &[u8]) -> Result<u32, Fail> {
+    let mut names = Names::make(alloc)?;
+    let code = code_of(alloc, text, &mut names)?;
+    Ok(count(&code))
 }
 
 /// A text with some part many times after a beginning.
@@ -106,74 +129,21 @@ fn repeated(alloc: Global, first: &[u8], part: &[u8], times: u32) -> Result<Vec<
     Ok(text)
 }
 
-/// The code of one clause that is a beginning, some part many times, and an end.
-fn code_with(
+/// How many instructions a clause has that is a beginning, some part many times, and an end.
+fn size_with(
     alloc: Global,
     first: &[u8],
     part: &[u8],
     times: u32,
     last: &[u8],
-) -> Result<Code, Fail> {
+) -> Result<u32, Fail> {
     let mut text = repeated(alloc, first, part, times)?;
     text.extend_from_slice(last)?;
-    let mut names = Names::make(alloc)?;
-    code_of(alloc, text.as_slice(), &mut names)
+    size_of(alloc, text.as_slice())
 }
 
-/// How many instructions stand up to the end of the first procedure's trials.
-fn count(code: &Code) -> u32 {
-    let mut at = 0;
-    while at < 4_000_000 && code.instr(at).is_some_and(|instr| *instr != NOWHERE) {
-        at += 1;
-    }
-    at
-}
-
-#[test]
-fn clauses_have_their_listing(rt: HostRuntime) -> Result<(), Fail> {
-    let alloc = rt.alloc();
-    let mut names = Names::make(alloc)?;
-    let code = code_of(alloc, CLAUSES.as_bytes(), &mut names)?;
-    let mut text = Vec::new(alloc);
-    listing(&mut text, &names, &code)?;
-    assert!(rt; text.as_slice() == LISTING.as_bytes());
-    // equal Smalls are kept once; four variables, two for each; 6 cells for two pairs, and 7 for the call
-    assert!(rt; code.small(0).is_some() && code.small(1).is_none());
-    assert_eq!(rt; (code.vars(0, 1), code.cells(0, 1)), (Some(4), Some(21)));
-    assert_eq!(rt; (code.first(1), code.first(3)), (Some(32), None));
-    assert_eq!(rt; code.slots(), 8);
-    Ok(())
-}
-
-/// Each clause is at a limit of the language, and as long in code as its parts.
-#[test]
-fn clauses_at_the_limits(rt: HostRuntime) -> Result<(), Fail> {
-    let alloc = rt.alloc();
-    // 64 arguments: a constant is put and unified
-    let code = code_with(alloc, b"p(a", b",a", 63, b").")?;
-    assert_eq!(rt; count(&code), 2 + 64 * 2);
-    // 256 items: each is a child without arguments
-    let code = code_with(alloc, b"p :- p", b",p", 255, b".")?;
-    assert_eq!(rt; count(&code), 2 + 256);
-    // 256 operators: with the variable and the numbers that are put
-    let code = code_with(alloc, b"p(X) :- X := 1", b"+1", 256, b".")?;
-    assert_eq!(rt; count(&code), 2 + 1 + 1 + 257 + 256 + 1);
-    // 256 operators in a test: its numbers are put, and it has 513 steps
-    let code = code_with(alloc, b"p :- 1", b"+1", 256, b" < 1 | true.")?;
-    assert!(rt; code.step(513).is_some() && code.step(514).is_none());
-    // 256 brackets deep
-    let mut text = repeated(alloc, b"p(", b"[", 255)?;
-    text.extend_from_slice(repeated(alloc, b"", b"]", 255)?.as_slice())?;
-    text.extend_from_slice(b").")?;
-    let mut names = Names::make(alloc)?;
-    let code = code_of(alloc, text.as_slice(), &mut names)?;
-    assert_eq!(rt; code.cells(0, 1), Some(3 * 254));
-    Ok(())
-}
-
-#[test]
-fn a_clause_of_250_variables(rt: HostRuntime) -> Result<(), Fail> {
-    let alloc = rt.alloc();
+/// A fact with a list of 250 variables.
+fn many_variables(alloc: Global) -> Result<Vec<u8>, Fail> {
     let mut text = Vec::from_slice(alloc, b"p([")?;
     let mut name = Vec::new(alloc);
     for _ in 0..250 {
@@ -182,17 +152,54 @@ fn a_clause_of_250_variables(rt: HostRuntime) -> Result<(), Fail> {
         text.push(b',')?;
     }
     text.extend_from_slice(b"a]).")?;
-    let mut names = Names::make(alloc)?;
-    let code = code_of(alloc, text.as_slice(), &mut names)?;
-    assert_eq!(rt; code.vars(0, 1), Some(250));
+    Ok(text)
+}
+
+#[test]
+fn clauses_have_their_listing(rt: HostRuntime) -> Result<(), Fail> {
+    assert!(rt; is_listed(rt.alloc(), CLAUSES.as_bytes(), LISTING.as_bytes())?);
     Ok(())
 }
 
-/// A list is walked in loops, and its code grows with its length alone: 500,000 elements and pairs that are put, and as many that
-/// are opened with a jump and a unification.
+/// 64 arguments, 256 items, 256 operators, 256 brackets deep and 250 variables: the code is as long as the parts, with three
+/// instructions besides: `Try`, `Commit` and the end of the trial.
+#[test]
+fn clauses_at_the_limits(rt: HostRuntime) -> Result<(), Fail> {
+    assert_eq!(rt;
+        size_with(rt.alloc(), b"p(a", b",a", 63, b").")?,
+        3 + 64 * 2
+    );
+    assert_eq!(rt;
+        size_with(rt.alloc(), b"p :- p", b",p", 255, b".")?,
+        3 + 256
+    );
+    assert_eq!(rt;
+        size_with(rt.alloc(), b"p(X) :- X := 1", b"+1", 256, b".")?,
+        3 + 2 + 257 + 256 + 1
+    );
+    let mut last = repeated(rt.alloc(), b"", b"]", 255)?;
+    last.extend_from_slice(b").")?;
+    assert_eq!(rt;
+        size_with(rt.alloc(), b"p(", b"[", 255, last.as_slice())?,
+        3 + 6 * 254 + 2
+    );
+    Ok(())
+}
+
+#[test]
+fn a_clause_of_250_variables(rt: HostRuntime) -> Result<(), Fail> {
+    let text = many_variables(rt.alloc())?;
+    assert_eq!(rt; size_of(rt.alloc(), text.as_slice())?, 3 + 6 * 251 + 2);
+    Ok(())
+}
+
+/// A list is walked in loops, and its code grows with its length alone: for each of 500,000 elements two instructions that put and
+/// four that open.
 #[test]
 fn a_long_head(rt: HostRuntime) -> Result<(), Fail> {
-    let code = code_with(rt.alloc(), b"p([a", b",a", 499_999, b"]).")?;
-    assert_eq!(rt; count(&code), 3_000_004);
+    assert_eq!(rt;
+        size_with(rt.alloc(), b"p([a", b",a", 499_999, b"]).")?,
+        3_000_005
+    );
     Ok(())
 }

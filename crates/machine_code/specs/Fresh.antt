@@ -1,5 +1,5 @@
--- First occurrences are fresh: along every way through code, the variable that `GetFirst` binds stands neither in its slot nor in
--- anything that was unified or bound before, so that no cycle is closed though nothing is looked at.
+-- First occurrences are fresh: along every way through code, the variable that `GetFirst` binds is above all that were put into its
+-- slot, and above all in what was unified or bound before, so that a machine can bind it without a look and close no cycle.
 use Rattle.std.specs.Prelude.{ℕ, zero, suc, max, ◌<◌, List, Option, Some, None, if◌then◌else◌, nat_eq, slice_get}
 use Rattle.machine_code.specs.Instructions.{Op, Try, GetFirst, GetCons, GetTuple, PutVar, PutWord, PutCons, PutTuple, Unify, Jump, Test, Otherwise, Spawn, Commit}
 
