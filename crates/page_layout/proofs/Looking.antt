@@ -177,3 +177,9 @@ pub in_there : (ns : List ℕ) (i : ℕ) → i < length ns → IsIn (get_or ns i
 in_there [] i l = absurd (omega (arith, l))
 in_there (n ∷ ns) zero l = inl refl
 in_there (n ∷ ns) (suc i) l = inr (in_there ns i (omega (arith, l)))
+
+-- what stands at a position
+pub stands_there : (rooms : List Room) (i : ℕ) (d : Room) → i < length rooms → slice_get rooms i ≡ Some (get_or rooms i d)
+stands_there [] i d l = absurd (omega (arith, l))
+stands_there (r ∷ rs) zero d l = refl
+stands_there (r ∷ rs) (suc i) d l = stands_there rs i d (omega (arith, l))

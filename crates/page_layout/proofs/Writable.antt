@@ -41,6 +41,10 @@ inside_if vs a lt h =
     (λ (e : a % 1024 ≡ 0). or_left _ _ (eq-eqb (a % 1024) 0 e))
     (λ (l : a < top_at vs (1024 * (a / 1024))). or_right _ _ (lt-ltb a _ (subst (λ (b : ℕ). a < top_at vs b) page l))) h)
 
+-- the first word of a page is inside
+pub top_inside : (ws : List ℕ) (p : ℕ) → 1024 * p < length ws → is_inside ws (1024 * p) ≡ true
+top_inside ws p lt = inside_if ws (1024 * p) lt (inl (omega arith))
+
 inside_then : (vs : List ℕ) (a : ℕ) → is_inside vs a ≡ true → (a < length vs) × ((a % 1024 ≡ 0) ⊎ (a < top_at vs (1024 * (a / 1024))))
 unfolding is_inside
 inside_then vs a h =

@@ -13,5 +13,5 @@ pub use commit::put_commit;
 pub use follow::plans;
 pub use hang::put_hang;
 pub use moves::{goes_to, relocate};
-pub use rooms::{Room, lay};
+pub use rooms::{Room, first_open, lay};
 pub use written::Written;

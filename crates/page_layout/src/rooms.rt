@@ -1,5 +1,6 @@
 //! Pieces go into pages by first fit.
-ghost use Rattle.std.specs.Prelude.{◌≡◌, ◌↔◌, ℕ, ◌+◌, ◌*◌, ◌<◌, ◌≤◌, true, false, IsTrue, IfOk, IfSome, IfNone, [], ◌∷◌, ◌++◌, length, slice_get, slice_set, Some, OnOk};
+ghost use Rattle.std.specs.Prelude.{◌≡◌, ◌⊎◌, ◌↔◌, ℕ, ◌+◌, ◌*◌, ◌<◌, ◌≤◌, true, false, IsTrue};
+ghost use Rattle.std.specs.Prelude.{IfOk, IfSome, IfNone, [], ◌∷◌, ◌++◌, length, slice_get, slice_set, Some, OnOk};
 ghost use Rattle.heap_words.specs.Cells.{decoded, encoded};
 ghost use Rattle.heap_words.specs.declared.cell.Cell.TheVariants.{Top};
 ghost use Rattle.page_layout.specs.declared.rooms.Room.{Room};
@@ -205,4 +206,32 @@ pub fn lay<W: Words>(
         place(rooms, table, at, room, need)?;
     }
     Ok(true)
+}
+
+/// The page after a room's, where it is this one and has less than 96 free words; else this page.
+fn past(page: u32, room: Room) -> u32
+    requires { IsRoom room }
+    ensures { (result ≡ page) ⊎ ((result ≡ page + 1) × (room.page ≡ page) × (1024 * room.page + 1024 < room.top + 96)) }
+{
+    if room.page == page && !has(room, 96) {
+        page + 1
+    } else {
+        page
+    }
+}
+
+/// The first page from one on that is not known to be nearly full: the pages before it are rooms with less than 96 free words. Where a
+/// caller lays its next entry from there, first fit does not look at them again.
+pub fn first_open(rooms: &[Room], from: u32) -> u32
+    requires rooms { (k : ℕ) (r : Room) → slice_get rooms.now k ≡ Some r → IsRoom r }
+    ensures from { from ≤ result }
+    ensures before { (p : ℕ) → from ≤ p → p < result → (k : ℕ) × (r : Room) × (slice_get rooms.now k ≡ Some r) × (r.page ≡ p)
+        × (1024 * r.page + 1024 < r.top + 96) }
+{
+    let mut first = from;
+    for at in 0..rooms.len() {
+        let room = rooms[at];
+        first = past(first, room);
+    }
+    first
 }

@@ -1,8 +1,10 @@
-//! Tests of what works on words: unification, the tests and expressions of guards, texts of values, waiting lists.
+//! Tests of what works on words: unification, the tests and expressions of guards, texts of values, waiting lists, layouts.
 #![tactic(auto)]
 
 #[cfg(test)]
 mod guards;
+#[cfg(test)]
+mod page_layouts;
 #[cfg(test)]
 mod slots;
 #[cfg(test)]
