@@ -74,7 +74,7 @@ module _ (f : ℕ → ℕ) (n p : ℕ) (binds : WordList) (ps : List (List ℕ))
   bound_word : (a v : ℕ) → Has w a → word_at binds a ≡ Some v → trial_words w binds ps a ≡ Some v
   bound_word a v h e = ap (λ (o : Option ℕ). first_of o (over binds w a)) (not_own a h) ∙ ap (λ (o : Option ℕ). first_of o (w a)) e
 
-  -- the word x of the trial stands behind the cell c of a word after the commit, and leads to the store or to a piece
+  -- a word of the trial from which the cell c of a word after the commit was moved, and which leads to the store or to a piece
   pub record Source (a : ℕ) (c : Cell) : Type 0 where
     pub word : ℕ
     pub from : Cell

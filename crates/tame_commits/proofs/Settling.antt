@@ -14,7 +14,8 @@ use Rattle.heap_words.specs.declared.cell.Cell.{Cell}
 use Rattle.heap_words.specs.declared.cell.Cell.TheVariants.{Unbound, Ref, RoRef, Small, Wide, Str, Nil, Cons, Tuple, Status, Raw, Top}
 use Rattle.ro_unify.specs.Value.{leads_on}
 use Rattle.ro_unify.specs.Occurs.{whole_of, count_of}
-use Rattle.ro_unify.specs.Walks.{IsCountOf, first_some, seen_at, IsSeen, seen_memory, Node, place, part, count, node_word, IsPlaceOf, IsPartOf, Goes}
+use Rattle.ro_unify.specs.Walks.{IsCountOf, first_some, seen_at, IsSeen, seen_memory, Node, place, part, count, node_word, IsPlaceOf}
+use Rattle.ro_unify.specs.Walks.{IsPartOf, Goes}
 use Rattle.ro_unify.specs.Walks.{Tame}
 use Rattle.ro_unify.specs.Walks as walks
 use Rattle.ro_unify.proofs.Seeing.{seen_had, seen_word}

@@ -171,8 +171,8 @@ module _ {m : Program} {book : Book} {s : State} {p : ℕ} {x : Process} {k : �
       → word_at (rows 4000000000 ps) (r + d) ≡ Some y
   row_word r d y q k' i' h e = rows_in 4000000000 r d y ps q (located_starts 1 1 4000000000 ps k' i' r q h) e
 
-  pub word_behind : (r x : ℕ) (k' i' : ℕ) → Located 1 1 4000000000 ps k' i' r (0 ∷ x ∷ []) → word_at (rows 4000000000 ps) (suc r) ≡ Some x
-  word_behind r x k' i' h =
+  pub word_after : (r x : ℕ) (k' i' : ℕ) → Located 1 1 4000000000 ps k' i' r (0 ∷ x ∷ []) → word_at (rows 4000000000 ps) (suc r) ≡ Some x
+  word_after r x k' i' h =
       let e : suc r ≡ r + 1 = omega arith in ap (word_at (rows 4000000000 ps)) e ∙ row_word r 1 x (0 ∷ x ∷ []) k' i' h refl
 
   pub fresh_once' : (v u : Variable) (a b : ℕ) → Listed (fresh_places f (suc s.entries) ps) v a
@@ -185,8 +185,8 @@ module _ {m : Program} {book : Book} {s : State} {p : ℕ} {x : Process} {k : �
             let num : g.0 ≡ i.0 = (let c : place (suc s.entries) g.0 ≡ place (suc s.entries) i.0 = cc in
             ap (λ (j : Place). j.number) c) in g.5 ∙ ap (λ (c : ℕ). f (suc c)) (o.0 num) ∙ sym i.5),
         (λ e.
-            let same : suc g.2 ≡ suc i.2 = known.laid.one (suc g.2) (suc i.2) g.3 i.3 (word_behind g.2 g.3 g.0 g.1 g.6)
-            (word_behind i.2 i.3 i.0 i.1 i.6) (sym g.5 ∙ e ∙ i.5) in
+            let same : suc g.2 ≡ suc i.2 = known.laid.one (suc g.2) (suc i.2) g.3 i.3 (word_after g.2 g.3 g.0 g.1 g.6)
+            (word_after i.2 i.3 i.0 i.1 i.6) (sym g.5 ∙ e ∙ i.5) in
             let c : g.2 ≡ i.2 = omega arith in
             g.4 ∙ ap (placed (suc s.entries)) (o.1 c) ∙ sym i.4),
       )
@@ -195,7 +195,7 @@ module _ {m : Program} {book : Book} {s : State} {p : ℕ} {x : Process} {k : �
   fresh_apart' v u a b h l e =
       let g = fresh_at u b l in
       let z = known.stands.says.word v a h in
-      let bad : Some z.0 ≡ None = sym z.1 ∙ ap w (e ∙ g.5) ∙ known.laid.free (suc g.2) g.3 (word_behind g.2 g.3 g.0 g.1 g.6) in cc
+      let bad : Some z.0 ≡ None = sym z.1 ∙ ap w (e ∙ g.5) ∙ known.laid.free (suc g.2) g.3 (word_after g.2 g.3 g.0 g.1 g.6) in cc
 
   pub fresh_word' : (v : Variable) (a : ℕ) → Listed (fresh_places f (suc s.entries) ps) v a
       → (y : ℕ) × (w' a ≡ Some y)
@@ -206,7 +206,7 @@ module _ {m : Program} {book : Book} {s : State} {p : ℕ} {x : Process} {k : �
       let z = (laid_at known) g.2 1 g.3 (0 ∷ g.3 ∷ []) g.0 g.1 g.6 refl (omega arith) in
       let e : suc g.2 ≡ g.2 + 1 = omega arith in
       let r = known.says.variable g.0 (suc g.2) g.7 in
-      let same : r.0 ≡ g.3 = same_Some _ _ (sym r.1 ∙ word_behind g.2 g.3 g.0 g.1 g.6) in
+      let same : r.0 ≡ g.3 = same_Some _ _ (sym r.1 ∙ word_after g.2 g.3 g.0 g.1 g.6) in
       let o : find (s.bound ++ settled (suc s.entries) known.says.bindings) (placed (suc s.entries) g.0) ≡ option_map
       (rename (settle (suc s.entries))) (find known.says.bindings (own g.0)) =
       find-append s.bound (settled (suc s.entries) known.says.bindings) (placed (suc s.entries) g.0)
@@ -218,7 +218,7 @@ module _ {m : Program} {book : Book} {s : State} {p : ℕ} {x : Process} {k : �
         subst (FreshSays w' (book.places ++ fresh_places f (suc s.entries) ps) z.0)
             (sym (ap (find (s.bound ++ settled (suc s.entries) known.says.bindings)) g.4 ∙ o))
             (go g.3 z.0 (find known.says.bindings (own g.0)) (suc g.2) (ap (λ (u : Option ℕ). first_of u (w (suc g.2)))
-            (word_behind g.2 g.3 g.0 g.1 g.6)) z.2
+            (word_after g.2 g.3 g.0 g.1 g.6)) z.2
             (subst (λ (y : ℕ). FreshSays (with_own ps w) (with_variables ps book.places) y (find known.says.bindings (own g.0))) same
             r.2)),
       )

@@ -16,3 +16,4 @@ pub mod Going
 pub mod Forming
 pub mod TriedMoves
 pub mod Alike
+pub mod Drawn

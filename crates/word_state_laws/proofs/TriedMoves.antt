@@ -43,10 +43,10 @@ unbound book s x {binds = binds} says a h =
     (b.0, b.2, r.3)
 
 pub a_commit_goes : ACommitGoes
-a_commit_goes m book ws s p k x read lists binds ps wakes f w' may has trial has_lists told laid = commit_goes known may.running
+a_commit_goes m book ws s p k x read lists binds ps wakes f w' may has trial owes has_lists told laid = commit_goes known may.running
   where
     says : CommitSays m (inside_at ws) book.places s.bound x.goal k binds ps
-    says = trial.says (inside_at ws) book.places s.bound x.goal (tried may read has)
+    says = trial (inside_at ws) book.places s.bound x.goal (tried may read has)
 
     woken : AreWoken book s says.bindings wakes
     woken = wakes_woken m book (inside_at ws) s x.goal k binds ps (addresses_of binds) wakes may.stands says
@@ -62,7 +62,7 @@ a_commit_goes m book ws s p k x read lists binds ps wakes f w' may has trial has
       few = may.few;
       low = heap_low ws may.heap;
       old = heap_old ws may.heap;
-      formed = led_formed ws may.heap read has binds ps trial.led;
+      formed = led_formed ws may.heap read has binds ps owes.led;
       says = says;
       woken = woken;
       laid = laid;
@@ -74,9 +74,9 @@ a_hang_goes m book ws s p x read places entry w' may has trial laid =
     (hang_effect m book s p x places entry (inside_at ws) w' may.stands may.process may.is_ready may.few says laid)
   where
     says : WaitSays m (inside_at ws) book.places s.bound x.goal places
-    says = trial.says (inside_at ws) book.places s.bound x.goal (tried may read has)
+    says = trial (inside_at ws) book.places s.bound x.goal (tried may read has)
 
 pub a_fail_goes : AFailGoes
 a_fail_goes m book ws s p x read may has trial =
     fail_goes m book s p x (inside_at ws) may.stands may.process may.is_ready may.running
-    (trial.says (inside_at ws) book.places s.bound x.goal (tried may read has))
+    (trial (inside_at ws) book.places s.bound x.goal (tried may read has))

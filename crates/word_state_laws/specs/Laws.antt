@@ -8,7 +8,7 @@ use Rattle.heap_words.specs.Trails.{WordList}
 use Rattle.heap_words.specs.declared.cell.Cell.TheVariants.{Unbound}
 use Rattle.word_states.specs.Words.{Words, At, Has, Among, HasAll, addresses_of, over}
 use Rattle.word_states.specs.Standing.{Book, StandsFor, ProcessAt}
-use Rattle.word_states.specs.Trials.{TriedCommit, TriedWait, TriedFail}
+use Rattle.word_states.specs.Trials.{TriedCommit, TriedWait, TriedFail, IsReadCommit}
 use Rattle.word_states.specs.Waking.{ReadWakes}
 use Rattle.word_states.specs.Layouts.{CommitLaid, HangLaid}
 use Rattle.word_states.specs.Planning.{commit_writes, IsPlanned, hang_writes, IsHangPlanned}
@@ -31,7 +31,7 @@ pub record MayMove (book : Book) (ws : List ℕ) (s : State) (p : ℕ) (x : Proc
 abbrev pub ACommitGoes : Type 0
 ACommitGoes = (m : Program) (book : Book) (ws : List ℕ) (s : State) (p k : ℕ) (x : Process) (read lists binds : WordList)
     (ps : List (List ℕ)) (wakes : List ℕ) (f : ℕ → ℕ) (w' : Words) → MayMove book ws s p x
-    → HasAll read (inside_at ws) → TriedCommit m read p k binds ps → HasAll lists (inside_at ws)
+    → HasAll read (inside_at ws) → TriedCommit m read p k binds ps → IsReadCommit read binds ps → HasAll lists (inside_at ws)
     → ReadWakes lists (addresses_of binds) wakes
     → CommitLaid f (suc s.entries) p binds ps wakes (inside_at ws) w' → Goes m s (Commit x.name k) w'
 

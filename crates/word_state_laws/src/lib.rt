@@ -2,6 +2,7 @@
 #![tactic(auto)]
 
 ghost use Rattle.word_state_laws.specs.OneState.{AStateIsOne};
+ghost use Rattle.word_state_laws.specs.Example.{AnExampleStands};
 ghost use Rattle.word_state_laws.specs.Laws.{ACommitGoes, AHangGoes, AFailGoes, APlannedCommitIsLaid, APlannedHangIsLaid};
 
 /// What a trial says of a heap that stands for a state goes: the entry is legal, and the words after it stand for the state after it.
@@ -20,4 +21,9 @@ pub fn plans()
 /// Words stand for one state at most, as far as words can tell.
 pub fn one_state()
     ensures { AStateIsOne }
+{}
+
+/// A small heap stands for a state: a place with a waiting list, a process that waits on it, and one that is Ready.
+pub fn example()
+    ensures { AnExampleStands }
 {}

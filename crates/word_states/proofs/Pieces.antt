@@ -196,7 +196,7 @@ process_once k i b (q ∷ qs) k1 i1 s1 p1 k2 i2 s2 p2 (inr g) (inl h) e f =
 process_once k i b (q ∷ qs) k1 i1 s1 p1 k2 i2 s2 p2 (inr g) (inr h) e f =
     process_once (next_place k q) (next_process i q) (b + length q) qs k1 i1 s1 p1 k2 i2 s2 p2 g h e f
 
--- a variable's word is behind the name of its place
+-- a variable's word comes after the name of its place
 pub variable_at : (k i b : ℕ) (ps : List (List ℕ)) (v : Variable) (a : ℕ) → Listed (numbered k (place_words b ps)) v a → (j i' s : ℕ)
     × (p : List ℕ) × (v ≡ own j) × Located k i b ps j i' s p × (is_place p ≡ true) × (a ≡ suc s)
 variable_at k i b [] v a h = absurd h

@@ -78,32 +78,35 @@ pub record AreReads (read : WordList) : Type 0 where
   -- of the store alone
   pub below : (a x : ℕ) → Among read (a, x) → a < 4000000000
 
--- By what it read, a trial of the process at p says that this commits by clause k, with these bindings and pieces.
-pub record TriedCommit (m : Program) (read : WordList) (p k : ℕ) (binds : WordList) (ps : List (List ℕ)) : Type 0 where
-  -- wherever words have what was read, the definitions decide so
-  pub says : (w : Words) (vs : Addresses) (bound : Bindings) (g : Goal Variable) → IsTried read p w vs bound g
-      → CommitSays m w vs bound g k binds ps
-  -- what it binds and makes leads on, and closes no cycle
+-- What a trial's answer says: wherever words have what it read, and the process at p has a goal, this commits by clause k.
+abbrev pub TriedCommit : Program → WordList → ℕ → ℕ → WordList → List (List ℕ) → Type 0
+TriedCommit m read p k binds ps = (w : Words) (vs : Addresses) (bound : Bindings) (g : Goal Variable) → IsTried read p w vs bound g
+    → CommitSays m w vs bound g k binds ps
+
+-- or it waits for the places at these addresses
+abbrev pub TriedWait : Program → WordList → ℕ → List ℕ → Type 0
+TriedWait m read p places = (w : Words) (vs : Addresses) (bound : Bindings) (g : Goal Variable) → IsTried read p w vs bound g
+    → WaitSays m w vs bound g places
+
+-- or it fails
+abbrev pub TriedFail : Program → WordList → ℕ → Type 0
+TriedFail m read p = (w : Words) (vs : Addresses) (bound : Bindings) (g : Goal Variable) → IsTried read p w vs bound g → FailSays m bound g
+
+-- Whatever the program is, a trial hands over bindings and pieces that are sound by what it read.
+pub record IsReadCommit (read binds : WordList) (ps : List (List ℕ)) : Type 0 where
+  -- they lead on, and close no cycle
   pub led : AreLed read binds ps
   pub tame : IsTame read binds ps
   -- what was read is a list of reads
   pub reads : AreReads read
-  -- each place that it binds was read as unbound, and is bound once
+  -- each place that is bound was read as unbound, and is bound once
   pub apart : AreApart binds
   pub opened : (a x : ℕ) → Among binds (a, x) → (e : ℕ) × ReadsPlace read a e
 
--- By what it read, it says that the process waits for the places at these addresses.
-pub record TriedWait (m : Program) (read : WordList) (p : ℕ) (places : List ℕ) : Type 0 where
-  -- wherever words have what was read, the definitions decide so
-  pub says : (w : Words) (vs : Addresses) (bound : Bindings) (g : Goal Variable) → IsTried read p w vs bound g
-      → WaitSays m w vs bound g places
+-- And so are the places for which it waits.
+pub record IsReadWait (read : WordList) (places : List ℕ) : Type 0 where
+  -- what was read is a list of reads
   pub reads : AreReads read
   -- each place once, and each was read as unbound
   pub distinct : AreDistinct places
   pub opened : (a : ℕ) → IsIn a places → (e : ℕ) × ReadsPlace read a e
-
--- By what it read, it says that the process fails.
-pub record TriedFail (m : Program) (read : WordList) (p : ℕ) : Type 0 where
-  -- wherever words have what was read, the definitions decide so
-  pub says : (w : Words) (vs : Addresses) (bound : Bindings) (g : Goal Variable) → IsTried read p w vs bound g → FailSays m bound g
-  pub reads : AreReads read
