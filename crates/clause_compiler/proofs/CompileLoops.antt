@@ -3,7 +3,7 @@ use Rattle.std.proofs.Common.{◌≡◌, ℕ, suc, ◌+◌, ◌<◌, ◌≤◌, 
 use Rattle.std.specs.Prelude.{slice_get, option_map}
 use Rattle.std.proofs.Math.Seq.{drop-cons}
 use Rattle.std.proofs.lemmas.List.{map_push, length-map}
-use Rattle.std.proofs.lemmas.Option.{slice_get_within, get_or_from_slice_get}
+use Rattle.std.proofs.lemmas.Option.{slice_get-map, slice_get_within, get_or_from_slice_get}
 use Rattle.fcp_model.specs.declared.goal.TheConstants.{TRUE_PROCEDURE}
 use Rattle.fcp_model.specs.declared.source.Module.{Module}
 use Rattle.fcp_model.specs.ProcedureNames.{procedure_names}
@@ -19,10 +19,12 @@ use Rattle.machine_code.specs.Compiling.{entrance_of, tables}
 use Rattle.machine_code.specs.Correct.{facts_in_code, facts_in_source, MeansSource, NamesSource}
 use Rattle.machine_code.specs.Each.{Each}
 use Rattle.machine_code.specs.Sound.{IsFormed, NamesBelow, StepsBelow, IsSound}
+use Rattle.machine_code.specs.Fresh.{no_tops, IsFresh}
+use Rattle.machine_code.specs.Machine.{Compiled}
+use Rattle.clause_compiler.proofs.FreshClauses.{program_fresh}
 use Rattle.head_code.proofs.PutLoops.{Remains, all_remains, remains_as, fewer_remain, none_remains}
-use Rattle.clause_compiler.proofs.ProcedureLoops.{slice_get_mapped}
 use Rattle.machine_code.specs.Targets.{AllLeadBehind}
-use Rattle.clause_compiler.proofs.ModulePrograms.{module_means}
+use Rattle.clause_compiler.proofs.ModulePrograms.{module_source, module_means}
 use Rattle.clause_compiler.proofs.Targets.{procedures_behind}
 use Rattle.clause_compiler.proofs.Formed.{procedures_formed}
 
@@ -47,7 +49,7 @@ procedures_next m a b c es es' x n eh ef ex ee bc left =
     let P = program_of m in
     let d = procedure_of hs m.clauses x.name in
     let found : slice_get P n ≡ Some d =
-    slice_get_mapped (procedure_of hs m.clauses) hs n ∙ ap (option_map (procedure_of hs m.clauses)) eh in
+    slice_get-map (procedure_of hs m.clauses) hs n ∙ ap (option_map (procedure_of hs m.clauses)) eh in
     let within : n < length P = slice_get_within P n d found in
     let next : suc n ≡ n + 1 = omega arith in
     let cut : drop n P ≡ d ∷ drop (n + 1) P = drop-cons P n d within ∙ (λ j. get_or_from_slice_get P n d d found j ∷ drop (next j) P) in
@@ -122,4 +124,8 @@ module _ (m : Module) (a b : Emitter) (es : List procedure.Procedure) (n : ℕ) 
     formed = subst (Each IsFormed) (sym ops_same) (procedures_formed (program_of m) 0);
     slots = is;
     step_slots = ss;
+    fresh =
+        subst (λ (c : Compiled). Each (λ e. IsFresh c.ops e.first no_tops 0) c.procedures)
+        (λ j. record { ops = sym ops_same j; procedures = sym begins_same j })
+        (program_fresh (program_of m) (module_source m k.few) (omega (arith, size, k.long)));
   }

@@ -25,7 +25,8 @@ use Rattle.fcp_model.specs.Translation.{term_step, term_of, terms_of, expr_step,
 use Rattle.fcp_model.proofs.Folds as folds
 use Rattle.fcp_model.proofs.Folds.{fold-Int, fold-Str, fold-Nil, fold-Cons, fold-Tuple, fold-Var, fold-Ro, term_induction, fold-Leaf, fold-Op, expr_induction}
 use Rattle.clause_compiler.specs.ClauseCode.{nowhere, procedures_code, code_of}
-use Rattle.clause_compiler.specs.Sources.{IsSourceTerm, AreSourceTerms, IsSourceExpr, IsSourceTest, IsSourceGoal, IsSourceClause, IsSourceProgram}
+use Rattle.clause_compiler.specs.Sources.{IsSourceExpr, IsSourceTest, IsSourceGoal, IsSourceClause, IsSourceProgram}
+use Rattle.head_code.specs.SourceTerms.{IsSourceTerm, AreSourceTerms}
 use Rattle.machine_code.specs.Each.{Each}
 use Rattle.machine_code.specs.Correct.{MeansSource}
 use Rattle.clause_compiler.proofs.Whole.{means_source}
@@ -124,6 +125,7 @@ module _ (hs : List ProcedureName) (few : length hs < TRUE_PROCEDURE) where
   clause_source : (h : ProcedureName) (c : read.Clause) → same_procedure h (procedure_name c) ≡ true
       → IsSourceClause h.arity (clause_of hs c)
   clause_source h c e = record {
+    head = terms_source c.args;
     guard = guard_source c.guard;
     body = body_source c.body;
     arguments =
@@ -146,8 +148,12 @@ module _ (hs : List ProcedureName) (few : length hs < TRUE_PROCEDURE) where
   procedures_source cs [] = tt
   procedures_source cs (g ∷ gs) = (clauses_source g cs, procedures_source cs gs)
 
+-- the program of a module
+pub module_source : (m : Module) → length (procedure_names m.clauses) < TRUE_PROCEDURE → IsSourceProgram (program_of m)
+module_source m few = procedures_source (procedure_names m.clauses) few m.clauses (procedure_names m.clauses)
+
 -- the code of a module means what its clauses decide
 pub module_means : (m : Module) → length (procedure_names m.clauses) < TRUE_PROCEDURE → length (procedures_code 0 (program_of m)) ≤ nowhere
     → MeansSource (program_of m) (code_of (program_of m))
 module_means m few long =
-    means_source (program_of m) (procedures_source (procedure_names m.clauses) few m.clauses (procedure_names m.clauses)) long
+    means_source (program_of m) (module_source m few) long

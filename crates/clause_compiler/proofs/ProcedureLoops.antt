@@ -1,8 +1,8 @@
 -- Clauses of a procedure that are left.
-use Rattle.std.proofs.Common.{◌≡◌, ℕ, zero, suc, ◌+◌, ◌<◌, Bool, true, false, cond, List, [], ◌∷◌, ◌++◌, length, map, filter, drop, Option, Some, None, refl, sym, ap, ◌∙◌, subst, append_assoc, append-nil, drop_of_length-le, length-append, ◌≤◌, arith}
+use Rattle.std.proofs.Common.{◌≡◌, ℕ, suc, ◌+◌, ◌<◌, Bool, true, false, cond, List, [], ◌∷◌, ◌++◌, length, map, filter, drop, Option, Some, None, refl, sym, ap, ◌∙◌, subst, append_assoc, append-nil, drop_of_length-le, length-append, ◌≤◌, arith}
 use Rattle.std.specs.Prelude.{get_or, slice_get, slice_index_or, option_map}
 use Rattle.std.proofs.Math.Seq.{drop-cons, get_or-append_seam}
-use Rattle.std.proofs.lemmas.Option.{slice_get_within, slice_get-get_or, get_or_from_slice_get}
+use Rattle.std.proofs.lemmas.Option.{slice_get-map, slice_get_within, slice_get-get_or, get_or_from_slice_get}
 use Rattle.fcp_model.specs.declared.loaded.ProcedureName.{ProcedureName}
 use Rattle.fcp_model.specs.declared.source.Clause as read
 use Rattle.fcp_model.specs.declared.source.Module.{Module}
@@ -43,11 +43,6 @@ picks_from h (c ∷ cs) pre n e =
     by true k = (here, k)
     by false k = k
 
-pub slice_get_mapped : {A B : Type 0} (f : A → B) (xs : List A) (p : ℕ) → slice_get (map f xs) p ≡ option_map f (slice_get xs p)
-slice_get_mapped f [] p = refl
-slice_get_mapped f (x ∷ xs) zero = refl
-slice_get_mapped f (x ∷ xs) (suc p) = slice_get_mapped f xs p
-
 -- the clauses from here on are left
 abbrev pub ClausesLeft : Module → Emitter → Emitter → List Op → ℕ → List ℕ → Type 0
 ClausesLeft m a b whole k ps =
@@ -60,7 +55,7 @@ pub picked : (m : Module) (p : ℕ) (ps : List ℕ) → slice_get (positions_in 
     × (clauses_in (program_of m) p ≡ map (clause_of (procedure_names m.clauses)) ds)
 picked m p ps h =
     by (slice_get (procedure_names m.clauses) p) refl
-    (sym (slice_get_mapped (λ x. positions_from 0 x m.clauses) (procedure_names m.clauses) p) ∙ h)
+    (sym (slice_get-map (λ x. positions_from 0 x m.clauses) (procedure_names m.clauses) p) ∙ h)
   where
     by : (o : Option ProcedureName) → slice_get (procedure_names m.clauses) p ≡ o
         → option_map (λ x. positions_from 0 x m.clauses) o ≡ Some ps
@@ -71,7 +66,7 @@ picked m p ps h =
         let z : positions_from 0 x m.clauses ≡ ps = cc in
         let q : clauses_in (program_of m) p ≡ clauses_called (procedure_names m.clauses) x m.clauses =
         ap (λ o. elim o as (λ _. List Clause) [ None ↦ [] | Some d ↦ d.clauses ])
-        (slice_get_mapped (procedure_of (procedure_names m.clauses) m.clauses) (procedure_names m.clauses) p
+        (slice_get-map (procedure_of (procedure_names m.clauses) m.clauses) (procedure_names m.clauses) p
         ∙ ap (option_map (procedure_of (procedure_names m.clauses) m.clauses)) i) in (
           filter (λ c. same_procedure x (procedure_name c)) m.clauses,
           subst

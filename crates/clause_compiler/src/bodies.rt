@@ -3,13 +3,15 @@ ghost use Rattle.std.specs.Prelude.{◌≡◌, ◌+◌, ◌&&◌, nat_eq, [], �
 ghost use Rattle.std.specs.List.{position_or_len};
 ghost use Rattle.machine_code.specs.Instructions.{Spawn};
 ghost use Rattle.fcp_model.specs.ProcedureNames.{procedure_names, same_procedure};
-ghost use Rattle.fcp_model.specs.Translation.{name_with_arity, term_of, goal_of, goals_of};
+ghost use Rattle.fcp_model.specs.Programs.{unifies, assigns};
+ghost use Rattle.fcp_model.specs.Translation.{name_with_arity, term_of, expr_of, goal_of, goals_of};
 ghost use Rattle.head_code.specs.Emitting.{Emits};
 ghost use Rattle.clause_compiler.specs.ClauseCode as spec;
 
 use crate::expressions::put_expr;
 use fcp_model::{
-    ASSIGN_PROCEDURE, Call, Item, Loaded, NoMemory, Sym, TRUE_PROCEDURE, Term, UNIFY_PROCEDURE,
+    ASSIGN_PROCEDURE, Call, Expr, Item, Loaded, NoMemory, Sym, TRUE_PROCEDURE, Term,
+    UNIFY_PROCEDURE,
 };
 use head_code::{Emitter, put, put_parts, up};
 use machine_code::Instr;
@@ -71,6 +73,50 @@ fn procedure_called(loaded: &Loaded, name: Sym, arity: u32) -> u32
     }
 }
 
+/// The built-in process `=`.
+fn unify(
+    alloc: Global,
+    code: &mut Emitter,
+    left: &Term,
+    right: &Term,
+    base: u32,
+) -> Result<(), NoMemory>
+    ensures { OnOk result (Emits code.old code.new (spec.goal_code base (unifies (term_of left.now) (term_of right.now)))) }
+{
+    let second = up(base, 1)?;
+    let free = up(base, 2)?;
+    put(alloc, code, left, base, free)?;
+    put(alloc, code, right, second, free)?;
+    code.emit(Instr::Spawn {
+        procedure: UNIFY_PROCEDURE,
+        first: base,
+        parts: 2,
+    })?;
+    Ok(())
+}
+
+/// The built-in process `:=`.
+fn assign(
+    alloc: Global,
+    code: &mut Emitter,
+    left: &Term,
+    right: &Expr,
+    base: u32,
+) -> Result<(), NoMemory>
+    ensures { OnOk result (Emits code.old code.new (spec.goal_code base (assigns (term_of left.now) (expr_of right.now)))) }
+{
+    let second = up(base, 1)?;
+    let free = up(base, 2)?;
+    put(alloc, code, left, base, free)?;
+    put_expr(alloc, code, right, second, free)?;
+    code.emit(Instr::Spawn {
+        procedure: ASSIGN_PROCEDURE,
+        first: base,
+        parts: 2,
+    })?;
+    Ok(())
+}
+
 /// An item of a body. The slots from `base` on are free.
 fn goal(
     alloc: Global,
@@ -83,30 +129,8 @@ fn goal(
 {
     match call {
         Call::User { name, args } => user(alloc, code, loaded, *name, args.as_slice(), base),
-        Call::Unify(left, right) => {
-            let second = up(base, 1)?;
-            let free = up(base, 2)?;
-            put(alloc, code, left, base, free)?;
-            put(alloc, code, right, second, free)?;
-            code.emit(Instr::Spawn {
-                procedure: UNIFY_PROCEDURE,
-                first: base,
-                parts: 2,
-            })?;
-            Ok(())
-        }
-        Call::Assign(left, right) => {
-            let second = up(base, 1)?;
-            let free = up(base, 2)?;
-            put(alloc, code, left, base, free)?;
-            put_expr(alloc, code, right, second, free)?;
-            code.emit(Instr::Spawn {
-                procedure: ASSIGN_PROCEDURE,
-                first: base,
-                parts: 2,
-            })?;
-            Ok(())
-        }
+        Call::Unify(left, right) => unify(alloc, code, left, right, base),
+        Call::Assign(left, right) => assign(alloc, code, left, right, base),
         Call::Same(_, _) => unknown(code, loaded, base),
         Call::NotSame(_, _) => unknown(code, loaded, base),
         Call::Compare(_, _, _) => unknown(code, loaded, base),

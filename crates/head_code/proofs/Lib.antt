@@ -1,5 +1,7 @@
 pub mod ArgumentLoops
 pub mod Emitting
+pub mod FreshGets
+pub mod FreshPuts
 pub mod Getting
 pub mod OpenLoops
 pub mod Patches

@@ -154,7 +154,15 @@ pair_emitted a b c d f i n r g q p p2 q2 p3 here met met' size hs po jo t h u h'
     pair_cut (length a.instrs.items) (length b.instrs.items) (length c.instrs.items) i n r g q p p2 q2 p3 po jo x y []
     (omega (arith, ab.size)) (omega (arith, bc.size, get_length x (length b.instrs.items) n g p p2)) er eg ep2 eq2
     (omega (arith, ep3, mark_width (term_of h') met)) (omega (arith, epo, eher, total))
-    (omega (arith, ejo, ab.size, bc.size, cd.size, get_length x (length b.instrs.items) n g p p2, get_length y (length c.instrs.items) r g q2 p3)) in
+    (omega (
+      arith,
+      ejo,
+      ab.size,
+      bc.size,
+      cd.size,
+      get_length x (length b.instrs.items) n g p p2,
+      get_length y (length c.instrs.items) r g q2 p3,
+    )) in
     let all =
     emits_on a b f _ _ ab (emits_on b c f gx (gy ++ (Jump jo ∷ Unify i q ∷ [])) bc
     (emits_on c d f gy (Jump jo ∷ Unify i q ∷ []) cd df)) in

@@ -2,3 +2,4 @@ pub mod Emitting
 pub mod TermCode
 pub mod HeadCode
 pub mod OpenCode
+pub mod SourceTerms

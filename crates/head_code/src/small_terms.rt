@@ -37,7 +37,19 @@ fn get_tuple(slot: u32, first: u32, parts: u8, put: u32) -> Instr
     }
 }
 
-/// Unifies a slot with a term, which is put into the slot `next`. Answers the greatest variable met by then.
+/// Unifies a slot with a term, which is put into the slot `next`.
+fn ask(alloc: Global, code: &mut Emitter, term: &Term, slot: u32, next: u32) -> Result<(), NoMemory>
+    ensures { OnOk result (Emits code.old code.new (ask slot next unmade (term_of term.now))) }
+{
+    put(alloc, code, term, next, up(next, 1)?)?;
+    code.emit(Instr::Unify {
+        left: slot,
+        right: next,
+    })?;
+    Ok(())
+}
+
+/// The same, with the greatest variable met by then as the answer.
 fn whole(
     alloc: Global,
     code: &mut Emitter,
@@ -49,11 +61,7 @@ fn whole(
     ensures code { OnOk result (Emits code.old code.new (ask slot next unmade (term_of term.now))) }
     ensures met { IfOk result (λ m. m ≡ met) }
 {
-    put(alloc, code, term, next, up(next, 1)?)?;
-    code.emit(Instr::Unify {
-        left: slot,
-        right: next,
-    })?;
+    ask(alloc, code, term, slot, next)?;
     Ok(met)
 }
 
@@ -71,7 +79,7 @@ fn unopened(
     let jump = code.instrs.len();
     code.emit(Instr::Jump { to: 0 })?;
     let begin = code.position()?;
-    whole(alloc, code, term, slot, next, 0)?;
+    ask(alloc, code, term, slot, next)?;
     let to = code.position()?;
     code.patch(jump, Instr::Jump { to });
     Ok(begin)

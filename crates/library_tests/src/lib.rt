@@ -2,6 +2,8 @@
 #![tactic(auto)]
 
 #[cfg(test)]
+mod compiler;
+#[cfg(test)]
 mod edge;
 #[cfg(test)]
 mod grammar;

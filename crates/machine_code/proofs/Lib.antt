@@ -1,9 +1,11 @@
 pub mod Appended
 pub mod Each
 pub mod Follows
+pub mod Fresh
 pub mod Held
 pub mod Opening
 pub mod Same
 pub mod SlotBounds
+pub mod SoundCode
 pub mod Standing
 pub mod Tables

@@ -7,3 +7,5 @@ pub mod Reading
 pub mod Compiling
 pub mod Correct
 pub mod Sound
+pub mod Fresh
+pub mod Listing

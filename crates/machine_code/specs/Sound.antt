@@ -12,6 +12,7 @@ use Rattle.machine_code.specs.Instructions.{Op, Test}
 use Rattle.machine_code.specs.Each.{Each}
 use Rattle.machine_code.specs.Reading.{Fits}
 use Rattle.machine_code.specs.Targets.{AllLeadBehind}
+use Rattle.machine_code.specs.Fresh.{no_tops, IsFresh}
 use Rattle.machine_code.specs.Compiling.{Tables, compiled}
 
 -- an expression over slots
@@ -75,11 +76,12 @@ StepsBelow n (table.Push slot) = slot < n
 StepsBelow n (table.Apply op) = Unit {0}
 
 -- What is so of all code: each position that an instruction names lies after its own, so that a trial runs each of them at
--- most once; the elements of the lists that it names are there; the steps of a test are those of its kind; and each slot
--- that it names is below the number of slots.
+-- most once; the elements of the lists that it names are there; the steps of a test are those of its kind; each slot that it
+-- names is below the number of slots; and from each procedure's first instruction on, first occurrences are fresh.
 pub record IsSound (t : Tables) : Type 0 where
   pub behind : AllLeadBehind 0 (compiled t).ops
   pub there : Each (Fits t.smalls t.steps) t.instrs
   pub formed : Each IsFormed (compiled t).ops
   pub slots : Each (NamesBelow t.slots) t.instrs
   pub step_slots : Each (StepsBelow t.slots) t.steps
+  pub fresh : Each (λ e. IsFresh (compiled t).ops e.first no_tops 0) t.procedures

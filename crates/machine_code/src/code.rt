@@ -1,7 +1,7 @@
 //! The code of a module.
-ghost use Rattle.std.specs.Prelude.{◌≡◌, option_map, slice_get};
+ghost use Rattle.std.specs.Prelude.{◌≡◌, option_map, map, take, drop, slice_get};
 ghost use Rattle.std.specs.Option.{option_copied};
-ghost use Rattle.machine_code.specs.Compiling.{tables, name_said, name_kept, clause_at};
+ghost use Rattle.machine_code.specs.Compiling.{tables, entrance_of, name_said, name_kept, clause_at};
 ghost use Rattle.machine_code.specs.Sound.{IsSound};
 
 use crate::Instr;
@@ -129,6 +129,22 @@ impl Code {
             return None;
         }
         found.clauses.get(clause as usize - 1).copied()
+    }
+
+    /// So many steps of the table from a position on; fewer where it ends before.
+    pub(crate) fn steps(&self, from: u32, len: u16) -> &[ExprStep]
+        ensures { result.now ≡ take len (drop from self.now.steps) }
+    {
+        let start = self.steps.len().min(from as usize);
+        let end = self.steps.len().min(start + len as usize);
+        &self.steps[start..end]
+    }
+
+    /// The procedures by number.
+    pub(crate) fn procedures(&self) -> &[Procedure]
+        ensures { map entrance_of result.now ≡ self.now.procedures }
+    {
+        self.procedures.as_slice()
     }
 
     /// The instructions.

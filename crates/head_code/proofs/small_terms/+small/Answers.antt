@@ -13,7 +13,8 @@ open_small-returns-in_ok-put-in-Cons-clause-code t c =
 pub open_small-returns-in_ok-put-in-Tuple-clause-code : goal.open_small-returns-in_ok-put-in-Tuple-clause-code
 open_small-returns-in_ok-put-in-Tuple-clause-code t c =
     small_tuple _ _ _ _ _ _ _ _ _ _ _ _ _ _ _ _ _ c.in-Tuple.is c.as_slice-in-Tuple.ensures (search rules) (search rules)
-    c.in_ok-free-in-Tuple.ensures c.get_tuple.ensures c.get_tuple-in-Tuple.ensures c.in_ok-emit-in-Tuple.ensures c.in_ok-last-in-Tuple.ensures.code c.in_ok-put-in-Tuple.ensures.code
+    c.in_ok-free-in-Tuple.ensures c.get_tuple.ensures c.get_tuple-in-Tuple.ensures c.in_ok-emit-in-Tuple.ensures
+    c.in_ok-last-in-Tuple.ensures.code c.in_ok-put-in-Tuple.ensures.code
     c.in_ok-put-in-Tuple.ensures.begin c.patch-in-Tuple.ensures.instrs c.patch-in-Tuple.ensures.smalls c.patch-in-Tuple.ensures.steps
 
 pub open_small_parts-loop-term-preserved : goal.open_small_parts-loop-term-preserved
