@@ -2,3 +2,4 @@ pub mod Cutting
 pub mod Filling
 pub mod SlotWords
 pub mod AtDesk
+pub mod Children

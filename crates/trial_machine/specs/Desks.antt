@@ -1,8 +1,9 @@
 -- A desk as what a try has at hand.
-use Rattle.std.specs.Prelude.{◌≡◌, ℕ, Bool, List, [], slice_get, unwrap_or}
+use Rattle.std.specs.Prelude.{◌≡◌, length, ℕ, Bool, List, [], slice_get, unwrap_or}
 use Rattle.heap_words.specs.Trails.{WordList}
 use Rattle.trial_laws.specs.AtHand.{AtHand}
 use Rattle.trial_laws.specs.Laws.{begun}
+use Rattle.trial_laws.specs.NewPieces.{with_piece, HasRoom}
 use Rattle.trial_machine.specs.Held.{Held, held}
 use Rattle.trial_machine.specs.declared.desk.Desk.{Desk}
 
@@ -27,6 +28,12 @@ hand d binds reads waits = at_hand d.clause d.next d.behind (held d.slots) d.pie
 -- what is at hand has become this, whatever the trail has
 abbrev pub Becomes : Desk → Desk → (AtHand → AtHand) → Type 0
 Becomes old new f = (binds : WordList) (reads waits : List ℕ) → hand new binds reads waits ≡ f (hand old binds reads waits)
+
+-- a piece was put after the others, and had room
+abbrev pub Adds : Desk → Desk → (AtHand → List ℕ) → Type 0
+Adds old new p = (binds : WordList) (reads waits : List ℕ)
+    → (hand new binds reads waits ≡ with_piece (hand old binds reads waits) (p (hand old binds reads waits)))
+    × HasRoom (hand old binds reads waits) (length (p (hand old binds reads waits)))
 
 -- A try begins: what is at hand is what its law says, once the trail has nothing of this try. The slots hold the arguments.
 abbrev pub Begins : Desk → Desk → ℕ → ℕ → ℕ → Type 0

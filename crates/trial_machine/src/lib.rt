@@ -3,6 +3,7 @@
 
 mod begin;
 mod beside;
+mod child;
 mod desk;
 mod get;
 mod pieces;

@@ -45,7 +45,7 @@ fn put_size(sizes: &mut Vec<u32>, size: u32) -> Result<(), NoMemory>
 }
 
 /// Puts words after the others. Where memory runs out, the words stay as they were.
-fn put_words(words: &mut Vec<u64>, more: &[u64]) -> Result<(), NoMemory>
+pub(crate) fn put_words(words: &mut Vec<u64>, more: &[u64]) -> Result<(), NoMemory>
     ensures { MatchResult result (λ _. words.new.items ≡ words.old.items ++ more.now) (λ _. words.new.items ≡ words.old.items) }
 {
     match words.extend_from_slice(more) {
