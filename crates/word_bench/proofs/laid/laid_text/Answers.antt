@@ -25,6 +25,7 @@ returns-in-Done c =
     goals_of_texts _ c.args.file.now c.in_ok-loaded.loaded _ c.args.goal.now c.in_ok-goal.goal c.in_ok-numbered.numbered
     (same_module _ c.args.file.now _ _ (sym c.in_ok-loaded.ensures.same) c.in_ok-read.ensures.read.0) (omega arith)
     c.in_ok-goal.ensures.read.0 c.in_ok-numbered.ensures in
+    let is_laid = c.lay_goal.ensures _ may in
     let heap : IsHeap c.lay_goal.new.words =
-    (subst (IsLaid c.in_ok-loaded.loaded c.in_ok-numbered.numbered.0 _ c.lay_goal.new.words) c.in-Done.is (c.lay_goal.ensures _ may)).heap in
+    (subst (IsLaid c.in_ok-loaded.loaded c.in_ok-numbered.numbered.0 _ c.lay_goal.new.words) c.in-Done.is is_laid).heap in
     subst IsHeap (sym (take_at c.lay_goal.new.words _ c.into_words-words.result.len (search rules))) heap
