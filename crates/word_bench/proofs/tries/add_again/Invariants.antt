@@ -1,0 +1,10 @@
+use Rattle.heap_words.specs.Trails.{Holds}
+use Rattle.ro_unify.specs.Walks.{Tame}
+use Rattle.word_bench.proofs.tries.add_again.Given as goal
+
+abbrev pub invariant-loop : goal.invariant-loop
+invariant-loop g l = record {
+  between : g.W.Words.later l.fn.words l.words;
+  holds : Holds g.W.Words.had g.W.Words.leads l.trail.kept l.trail.binds l.words;
+  tame : Tame l.trail.binds l.trail.kept (g.W.Words.own l.words) (g.W.Words.addresses l.words);
+}
