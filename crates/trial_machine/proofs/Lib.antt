@@ -3,3 +3,4 @@ pub mod Filling
 pub mod SlotWords
 pub mod AtDesk
 pub mod Children
+pub mod Constants

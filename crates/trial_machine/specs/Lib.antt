@@ -3,3 +3,4 @@ pub mod Cuts
 pub mod Besides
 pub mod BesideLaws
 pub mod Desks
+pub mod Constants

@@ -4,6 +4,7 @@
 mod begin;
 mod beside;
 mod child;
+mod constant;
 mod desk;
 mod get;
 mod pieces;
