@@ -3,14 +3,13 @@ use crate::words::{
     A, B, NIL, OF_A, OF_B, OF_BOUND, PAIR_140, PAIR_142, PAIR_144, PAIR_146, PAIR_148, RO_A, RO_B,
     RO_PAIR, SMALL_0, SMALL_1, SMALL_2, SMALL_5, SMALL_6, SMALL_7, SMALL_M1, SMALL_M2, SMALL_M7,
     STRING_5, STRING_9, TUPLE_128, TUPLE_384, TUPLE_640, WIDE_150_1, WIDE_151_1, WIDE_151_2,
-    WIDE_152_1, WIDE_LEAST, WIDE_MOST, deep, reads, sheet,
+    WIDE_152_1, WIDE_LEAST, WIDE_MOST, reads, sheet,
 };
 use fcp_model::{ArithOp, NoMemory};
 use guard_tests::{Evaluated, TestLists, Tested, evaluate, test};
 use heap_words::{ExprStep, TestKind, Trail, Words};
 use std::alloc::Global;
 use std::test::Fail;
-use word_sheets::Sheet;
 
 /// A test of the word at an address, with nothing bound before.
 fn test_at<W: Words>(
@@ -37,7 +36,7 @@ fn test_at<W: Words>(
 }
 
 /// A test of the words at two addresses, with nothing bound before.
-fn test_both<W: Words>(
+pub(crate) fn test_both<W: Words>(
     alloc: Global,
     lists: &mut TestLists,
     words: &mut W,
@@ -346,57 +345,5 @@ fn each_comparison_of_numbers(rt: HostRuntime) -> Result<(), Fail> {
 #[test]
 fn each_edge_of_an_expression(rt: HostRuntime) -> Result<(), Fail> {
     assert_eq!(rt; first_wrong_value(rt.alloc())?, None);
-    Ok(())
-}
-
-/// Whether two words are the same terms, by `==`.
-fn equality(alloc: Global, sheet: &mut Sheet, left: u64, right: u64) -> Result<Tested, NoMemory> {
-    let mut lists = TestLists::make(alloc);
-    let first = sheet.put(left)?;
-    let second = sheet.put(right)?;
-    let (found, _trail) = test_both(alloc, &mut lists, sheet, TestKind::Same, first, second)?;
-    Ok(found)
-}
-
-/// A sheet on which terms can begin.
-fn blank(alloc: Global) -> Result<Sheet, NoMemory> {
-    let mut sheet = Sheet::make(alloc);
-    for _ in 0..130 {
-        sheet.put(NIL)?;
-    }
-    Ok(sheet)
-}
-
-/// The comparison of two terms of 100,000 pairs, each the first part of the next one.
-fn deep_answer(alloc: Global) -> Result<Tested, NoMemory> {
-    let mut sheet = blank(alloc)?;
-    let left = deep(&mut sheet, 1_000_000)?;
-    let right = deep(&mut sheet, 1_000_000)?;
-    equality(alloc, &mut sheet, left, right)
-}
-
-/// A pair whose two parts are one pair, and so on, so many times.
-fn doubled(sheet: &mut Sheet, times: u32) -> Result<u64, NoMemory> {
-    let mut last = NIL;
-    for _ in 0..times {
-        let at = sheet.put(last)?;
-        sheet.put(last)?;
-        last = 16 * at as u64 + 7;
-    }
-    Ok(last)
-}
-
-/// The comparison of two terms that were doubled 18 times.
-fn doubled_answer(alloc: Global) -> Result<Tested, NoMemory> {
-    let mut sheet = blank(alloc)?;
-    let left = doubled(&mut sheet, 18)?;
-    let right = doubled(&mut sheet, 18)?;
-    equality(alloc, &mut sheet, left, right)
-}
-
-#[test]
-fn deep_and_shared_terms_are_compared(rt: HostRuntime) -> Result<(), Fail> {
-    assert_eq!(rt; deep_answer(rt.alloc())?, Tested::Holds);
-    assert_eq!(rt; doubled_answer(rt.alloc())?, Tested::Holds);
     Ok(())
 }

@@ -2,6 +2,8 @@
 #![tactic(auto)]
 
 #[cfg(test)]
+mod deep_terms;
+#[cfg(test)]
 mod guards;
 #[cfg(test)]
 mod page_layouts;
