@@ -4,3 +4,4 @@ pub mod SlotWords
 pub mod AtDesk
 pub mod Children
 pub mod Constants
+pub mod Opened

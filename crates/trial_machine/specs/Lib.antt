@@ -4,3 +4,4 @@ pub mod Besides
 pub mod BesideLaws
 pub mod Desks
 pub mod Constants
+pub mod Opened

@@ -7,9 +7,11 @@ mod child;
 mod constant;
 mod desk;
 mod get;
+mod open;
 mod pieces;
 mod put;
 mod slots;
+mod unify;
 
 pub use beside::Beside;
 pub use desk::Desk;

@@ -1,0 +1,10 @@
+use Rattle.std.proofs.Common.{◌≡◌}
+use Rattle.heap_words.proofs.Keeps.{loaded_twice, still_says}
+use Rattle.trial_machine.proofs.open.both.Goals as goal
+
+pub returns-clause-loaded : goal.returns-clause-loaded
+returns-clause-loaded g c = loaded_twice g.met.W.Words.laws c.in_ok-one.ensures.loaded c.in_ok-two.ensures.loaded
+
+pub returns-clause-one : goal.returns-clause-one
+returns-clause-one g c =
+    still_says g.met.W.Words.laws (λ m. m c.args.at ≡ c.in_ok-one.one) c.in_ok-two.ensures.loaded c.in_ok-one.ensures.word
