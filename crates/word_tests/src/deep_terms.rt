@@ -1,6 +1,6 @@
-//! Deep and shared terms under `==`.
+//! Deep, long and shared terms under `==`.
 use crate::guards::test_both;
-use crate::words::{NIL, deep};
+use crate::words::{NIL, deep, doubled, long};
 use fcp_model::NoMemory;
 use guard_tests::{TestLists, Tested};
 use heap_words::TestKind;
@@ -34,15 +34,12 @@ fn deep_answer(alloc: Global) -> Result<Tested, NoMemory> {
     equality(alloc, &mut sheet, left, right)
 }
 
-/// A pair whose two parts are one pair, and so on, so many times.
-fn doubled(sheet: &mut Sheet, times: u32) -> Result<u64, NoMemory> {
-    let mut last = NIL;
-    for _ in 0..times {
-        let at = sheet.put(last)?;
-        sheet.put(last)?;
-        last = 16 * at as u64 + 7;
-    }
-    Ok(last)
+/// The comparison of two lists of 1,000,000 elements.
+fn long_answer(alloc: Global) -> Result<Tested, NoMemory> {
+    let mut sheet = blank(alloc)?;
+    let left = long(&mut sheet, 1_000_000)?;
+    let right = long(&mut sheet, 1_000_000)?;
+    equality(alloc, &mut sheet, left, right)
 }
 
 /// The comparison of two terms that were doubled 18 times.
@@ -56,6 +53,7 @@ fn doubled_answer(alloc: Global) -> Result<Tested, NoMemory> {
 #[test]
 fn deep_and_shared_terms_are_compared(rt: HostRuntime) -> Result<(), Fail> {
     assert_eq!(rt; deep_answer(rt.alloc())?, Tested::Holds);
+    assert_eq!(rt; long_answer(rt.alloc())?, Tested::Holds);
     assert_eq!(rt; doubled_answer(rt.alloc())?, Tested::Holds);
     Ok(())
 }

@@ -3,7 +3,7 @@ use crate::words::{
     A, B, C, NIL, OF_A, OF_B, OF_BOUND, OF_BOUND_RO, OF_C, PAIR_140, PAIR_142, PAIR_144, PAIR_160,
     RO_A, RO_B, RO_BOUND, RO_PAIR, SMALL_0, SMALL_1, SMALL_5, SMALL_6, SMALL_7, STRING_5, STRING_9,
     STRING_10, TUPLE_128, TUPLE_384, TUPLE_640, WIDE_150_1, WIDE_151_1, WIDE_151_2, WIDE_152_1,
-    deep, reads, sheet,
+    deep, doubled, long, reads, sheet,
 };
 use fcp_model::NoMemory;
 use heap_words::{Trail, Words};
@@ -165,5 +165,38 @@ fn a_deep_term_is_unified(rt: HostRuntime) -> Result<(), Fail> {
     assert_eq!(rt; end, Unified::Done);
     assert_eq!(rt; binding(&trail), (Some((1, left)), false));
     assert_eq!(rt; reads(&trail), [1, 0, 0, 0]);
+    Ok(())
+}
+
+/// How two lists of 1,000,000 elements unify.
+fn long_end(alloc: Global) -> Result<Unified, NoMemory> {
+    let mut lists = WorkLists::make(alloc);
+    let mut sheet = Sheet::make(alloc);
+    for _ in 0..130 {
+        sheet.put(NIL)?;
+    }
+    let left = long(&mut sheet, 1_000_000)?;
+    let right = long(&mut sheet, 1_000_000)?;
+    let (end, _trail) = unify_two(alloc, &mut lists, &mut sheet, left, right)?;
+    Ok(end)
+}
+
+/// How two terms unify that were doubled 18 times.
+fn doubled_end(alloc: Global) -> Result<Unified, NoMemory> {
+    let mut lists = WorkLists::make(alloc);
+    let mut sheet = Sheet::make(alloc);
+    for _ in 0..130 {
+        sheet.put(NIL)?;
+    }
+    let left = doubled(&mut sheet, 18)?;
+    let right = doubled(&mut sheet, 18)?;
+    let (end, _trail) = unify_two(alloc, &mut lists, &mut sheet, left, right)?;
+    Ok(end)
+}
+
+#[test]
+fn long_and_shared_terms_are_unified(rt: HostRuntime) -> Result<(), Fail> {
+    assert_eq!(rt; long_end(rt.alloc())?, Unified::Done);
+    assert_eq!(rt; doubled_end(rt.alloc())?, Unified::Done);
     Ok(())
 }

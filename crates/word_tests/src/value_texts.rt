@@ -1,4 +1,4 @@
-use crate::words::deep;
+use crate::words::{deep, long};
 use fcp_model::{Names, NoMemory};
 use heap_words::{Trail, Words};
 use std::alloc::Global;
@@ -230,5 +230,26 @@ fn a_deep_term_has_its_text(rt: HostRuntime) -> Result<(), Fail> {
     assert_eq!(rt; cut.as_slice(), "[[[..|..]|..]|..]".as_bytes());
     let whole = text_of(rt.alloc(), &mut lists, &mut sheet, &names, word, u32::MAX)?;
     assert_eq!(rt; whole.len(), 2_000_002);
+    Ok(())
+}
+
+/// The text of a list of 1,000,000 elements, cut after so many nodes.
+fn long_text(alloc: Global, nodes: u32) -> Result<Vec<u8>, NoMemory> {
+    let mut lists = TextLists::make(alloc);
+    let names = Names::make(alloc)?;
+    let mut sheet = Sheet::make(alloc);
+    for _ in 0..256 {
+        sheet.put(NIL)?;
+    }
+    let word = long(&mut sheet, 1_000_000)?;
+    text_of(alloc, &mut lists, &mut sheet, &names, word, nodes)
+}
+
+#[test]
+fn a_long_list_has_its_text(rt: HostRuntime) -> Result<(), Fail> {
+    let cut = long_text(rt.alloc(), 3)?;
+    assert_eq!(rt; cut.as_slice(), "[[],..|..]".as_bytes());
+    let whole = long_text(rt.alloc(), u32::MAX)?;
+    assert_eq!(rt; whole.len(), 3_000_001);
     Ok(())
 }

@@ -153,17 +153,46 @@ pub(crate) fn sheet(alloc: Global) -> Result<Sheet, NoMemory> {
     Ok(sheet)
 }
 
+/// Puts the empty list where no pair of a term may begin.
+fn skip(sheet: &mut Sheet) -> Result<(), NoMemory> {
+    if sheet.words.len() % 256 == 0 {
+        for _ in 0..130 {
+            sheet.put(NIL)?;
+        }
+    }
+    Ok(())
+}
+
 /// A term of so many pairs, each the first part of the next one.
 pub(crate) fn deep(sheet: &mut Sheet, pairs: u32) -> Result<u64, NoMemory> {
     let mut last = NIL;
     for _ in 0..pairs {
-        if sheet.words.len() % 256 == 0 {
-            for _ in 0..130 {
-                sheet.put(NIL)?;
-            }
-        }
+        skip(sheet)?;
         let at = sheet.put(last)?;
         sheet.put(NIL)?;
+        last = 16 * at as u64 + 7;
+    }
+    Ok(last)
+}
+
+/// A list of so many empty lists.
+pub(crate) fn long(sheet: &mut Sheet, elements: u32) -> Result<u64, NoMemory> {
+    let mut last = NIL;
+    for _ in 0..elements {
+        skip(sheet)?;
+        let at = sheet.put(NIL)?;
+        sheet.put(last)?;
+        last = 16 * at as u64 + 7;
+    }
+    Ok(last)
+}
+
+/// A pair whose two parts are one pair, and so on, so many times.
+pub(crate) fn doubled(sheet: &mut Sheet, times: u32) -> Result<u64, NoMemory> {
+    let mut last = NIL;
+    for _ in 0..times {
+        let at = sheet.put(last)?;
+        sheet.put(last)?;
         last = 16 * at as u64 + 7;
     }
     Ok(last)
