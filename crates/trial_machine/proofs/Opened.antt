@@ -1,5 +1,6 @@
 -- A pair whose parts go into slots.
-use Rattle.std.proofs.Common.{◌≡◌, ℕ, false, Option, Some, None, sym, ap, ap₂, ◌∙◌}
+use Rattle.std.proofs.Common.{◌≡◌, ℕ, Bool, true, false, cond, Option, Some, None, sym, ap, ap₂, ◌∙◌, subst}
+use Rattle.std.specs.Prelude.{nat_eq}
 use Rattle.heap_words.specs.Cells.{decoded}
 use Rattle.heap_words.specs.declared.cell.Cell.{Cell}
 use Rattle.heap_words.specs.declared.cell.Cell.TheVariants as cell
@@ -9,7 +10,7 @@ use Rattle.ro_unify.specs.declared.occurrence.Whole.TheVariants as whole
 use Rattle.ro_unify.specs.Occurs.{whole_of}
 use Rattle.ro_unify.specs.Value.{look_word}
 use Rattle.trial_laws.specs.Opening.{pair_in, pair_at}
-use Rattle.trial_machine.specs.Held.{Held, held_with}
+use Rattle.trial_machine.specs.Held.{Held, held_term, held_with}
 
 pair_cell : (o : Option Cell) (c : ℕ) → pair_in o ≡ Some c → whole_of o ≡ whole.Pair c
 pair_cell (Some (cell.Cons a)) c e = cc
@@ -38,3 +39,17 @@ pub two_held : (h h' h'' : Held) (i j x y a b : ℕ) → h' ≡ held_with h i x 
 two_held h h' h'' i j x y a b e f k l =
     f ∙ (ap (λ (z : Held). held_with z j y false) e
     ∙ ap₂ (λ (p q : ℕ). held_with (held_with h i p false) j q false) (sym k) (sym l))
+
+-- what is so of the words of all slots as terms stays so where two slots take two such words
+pub still_so : (P : ℕ → Type 0) (h h' h'' : Held) (i j x y : ℕ) → h' ≡ held_with h i x false → h'' ≡ held_with h' j y false → P x → P y
+    → ((k : ℕ) → P (held_term h k)) → (k : ℕ) → P (held_term h'' k)
+still_so P h h' h'' i j x y e f p q all k =
+    subst (λ (z : Held). P (held_term z k)) (sym f)
+    (one P h' j y q (λ n. subst (λ (z : Held). P (held_term z n)) (sym e) (one P h i x p all n)) k)
+  where
+    one : (P : ℕ → Type 0) (h : Held) (i x : ℕ) → P x → ((k : ℕ) → P (held_term h k)) → (k : ℕ) → P (held_term (held_with h i x false) k)
+    one P h i x p all k = go (nat_eq k i)
+      where
+        go : (b : Bool) → P (cond (cond b false (h.operators k)) 6 (cond b x (h.words k)))
+        go true = p
+        go false = all k

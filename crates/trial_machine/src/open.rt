@@ -1,5 +1,5 @@
 //! The instructions that open a value: its parts go into slots.
-ghost use Rattle.std.specs.Prelude.{◌≡◌, ◌+◌, ◌<◌, length, IfOk, OnOk, OnErr};
+ghost use Rattle.std.specs.Prelude.{◌≡◌, ◌+◌, ◌<◌, ℕ, length, IfOk, OnOk, OnErr};
 ghost use Rattle.heap_words.specs.Trails.{Holds, KeepsLoads, Says};
 ghost use Rattle.ro_unify.specs.Walks.{Tame};
 ghost use Rattle.trial_laws.specs.Opening.{pair_at};
@@ -42,6 +42,7 @@ fn both<W: Words>(
     ensures reads { trail.new.reads.items ≡ trail.old.reads.items }
     ensures one { IfOk result (λ r. Says (W.own words.new) trail.new.kept (λ m. m at ≡ r.0)) }
     ensures two { IfOk result (λ r. Says (W.own words.new) trail.new.kept (λ m. m to ≡ r.1)) }
+    ensures leads { IfOk result (λ r. W.leads words.new r.0 × W.leads words.new r.1) }
 {
     let one = trail.word(words, at)?;
     let two = trail.word(words, to)?;
@@ -71,6 +72,8 @@ impl Slots {
         ensures reads { trail.new.reads.items ≡ trail.old.reads.items }
         ensures opened { IfOk result (λ b. Says (W.own words.new) trail.new.kept
             (λ m. OpensPair trail.old.binds m (held self.old) (held self.new) slot left right b)) }
+        ensures lead { OnOk result (((i : ℕ) → W.leads words.old (held_term (held self.old) i))
+            → (i : ℕ) → W.leads words.new (held_term (held self.new) i)) }
         ensures stays { OnErr result (held self.new ≡ held self.old) }
         ensures count { length self.new.slots ≡ length self.old.slots }
     {

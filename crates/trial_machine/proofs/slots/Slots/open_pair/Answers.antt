@@ -3,7 +3,7 @@ use Rattle.heap_words.proofs.Keeps.{loaded_twice, still_says}
 use Rattle.ro_unify.specs.Value.{Values}
 use Rattle.ro_unify.proofs.Leads.{pair_known}
 use Rattle.trial_machine.specs.Held.{held}
-use Rattle.trial_machine.proofs.Opened.{pair_word, two_held}
+use Rattle.trial_machine.proofs.Opened.{pair_word, two_held, still_so}
 use Rattle.trial_machine.proofs.slots.Slots.open_pair.Goals as goal
 
 pub both-requires-clause-known : goal.both-requires-clause-known
@@ -42,3 +42,11 @@ returns-in_ok-parts-in-Some-clause-opened g c m i =
       subst (λ (x : ℕ). Values c.args.trail.now.binds m false x c.in_ok-look.look) c.term.ensures value,
       (c.in-Some.at, sym c.in-Some.ensures, parts),
     )
+
+pub returns-in_ok-parts-in-Some-clause-lead : goal.returns-in_ok-parts-in-Some-clause-lead
+returns-in_ok-parts-in-Some-clause-lead g c all =
+    still_so (g.W.Words.leads c.both.new.words) (held c.args.self.now) (held c.hold.new.self) (held c.hold-in-Some.new.self)
+    c.args.left c.args.right _ _ c.hold.ensures.held c.hold-in-Some.ensures.held c.in_ok-parts-in-Some.ensures.leads.0
+    c.in_ok-parts-in-Some.ensures.leads.1
+    (λ k. g.met.W.Words.laws.stays_leading _ _ _ c.both.ensures.between
+    (g.met.W.Words.laws.stays_leading _ _ _ c.deref.ensures.between (all k)))
