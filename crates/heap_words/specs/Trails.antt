@@ -1,5 +1,5 @@
 -- Words by address, and what a trail says of them.
-use Rattle.std.specs.Prelude.{◌≡◌, ℕ, ◌<◌, ◌⊎◌, List, Option, Some, nat_eq, unwrap_or}
+use Rattle.std.specs.Prelude.{◌≡◌, ℕ, ◌<◌, ◌⊎◌, List, Option, Some, nat_eq, unwrap_or, slice_get}
 use Rattle.std.specs.Map.{lookup}
 
 -- all words of a store at one moment, or as a try saw them
@@ -13,6 +13,10 @@ WordList = List (ℕ × ℕ)
 -- the word that a list has at an address
 abbrev pub word_at : WordList → ℕ → Option ℕ
 word_at seen a = lookup (nat_eq a) seen
+
+-- no address stands at two positions of a list
+abbrev pub AreOnce : WordList → Type 0
+AreOnce ws = (i j a x y : ℕ) → slice_get ws i ≡ Some (a, x) → slice_get ws j ≡ Some (a, y) → i ≡ j
 
 -- the memory under private bindings
 abbrev pub under : WordList → Memory → Memory

@@ -16,4 +16,4 @@ pub use heap::PlainHeap;
 pub use pieces::{Piece, Seen};
 pub use steps::{ExprStep, TestKind};
 pub use trail::Trail;
-pub use words::Words;
+pub use words::{OWN, Words};

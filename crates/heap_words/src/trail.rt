@@ -1,9 +1,9 @@
 //! The trail of a try: what it bound privately, what it read unbound, and the words that it loaded.
 ghost use Rattle.std.specs.Prelude.{◌≡◌, ◌++◌, [], ◌∷◌, ◌≤◌, None, IfOk, OnOk, OnErr, MatchResult, slice_get, option_map};
-ghost use Rattle.heap_words.specs.Trails.{word_at, under, Holds, KeepsLoads, Says};
+ghost use Rattle.heap_words.specs.Trails.{word_at, under, AreOnce, Holds, KeepsLoads, Says};
 
-use crate::word_table::{OWN, WordTable};
-use crate::words::Words;
+use crate::word_table::WordTable;
+use crate::words::{OWN, Words};
 use fcp_model::NoMemory;
 use std::alloc::Global;
 
@@ -138,6 +138,45 @@ impl Trail {
         self.kept.at(at)
     }
 
+    /// The private bindings, in the order in which they were made.
+    pub fn bound_words(&self) -> &[(u32, u64)]
+        ensures { result.now ≡ self.now.binds }
+    {
+        self.binds.entries()
+    }
+
+    /// The places read, in the order in which they were noted.
+    pub fn places_read(&self) -> &[u32]
+        ensures { result.now ≡ self.now.reads.items }
+    {
+        self.reads.as_slice()
+    }
+
+    /// The kept words, in the order in which they were loaded.
+    pub fn kept_words(&self) -> &[(u32, u64)]
+        ensures { result.now ≡ self.now.kept }
+    {
+        self.kept.entries()
+    }
+
+    /// Each address is bound once, and kept once. This does nothing: its contract is the law.
+    pub fn once(&self)
+        ensures binds { AreOnce self.now.binds }
+        ensures kept { AreOnce self.now.kept }
+    {
+        self.binds.once();
+        self.kept.once();
+    }
+
+    /// Drops the places read alone.
+    pub fn forget_reads(&mut self)
+        ensures binds { self.new.binds ≡ self.old.binds }
+        ensures reads { self.new.reads.items ≡ [] }
+        ensures kept { self.new.kept ≡ self.old.kept }
+    {
+        self.reads.clear();
+    }
+
     /// Drops the private bindings alone.
     pub fn undo(&mut self)
         ensures binds { self.new.binds ≡ [] }
@@ -154,7 +193,7 @@ impl Trail {
         ensures kept { self.new.kept ≡ [] }
     {
         self.undo();
-        self.reads.clear();
+        self.forget_reads();
         self.kept.clear();
     }
 }

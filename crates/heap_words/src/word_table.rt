@@ -2,14 +2,13 @@
 //! address might stand. What is noted is looked at in the list, so dropping the list's words is enough to forget them all.
 ghost use Rattle.std.specs.Prelude.{◌≡◌, ◌++◌, [], ◌∷◌, ℕ, Some, None, OnOk, MatchResult, slice_get};
 ghost use Rattle.heap_words.specs.Trails.{word_at};
+ghost use Rattle.heap_words.specs.Trails.{AreOnce};
 ghost use Rattle.heap_words.specs.WordTables.{noted_at};
 
+use crate::words::OWN;
 use fcp_model::NoMemory;
 use std::alloc::Global;
 use std::marker::Model;
-
-/// Addresses from here on are those of a try's own pieces.
-pub(crate) const OWN: u32 = 4_000_000_000;
 
 /// Positions by address: those of own addresses in a list of their own.
 #[derive(Drop)]
@@ -132,6 +131,20 @@ impl WordTable {
         ensures { result ≡ slice_get self.now at }
     {
         self.list.get(at).copied()
+    }
+
+    /// All entries, in the order in which they were put.
+    pub(crate) fn entries(&self) -> &[(u32, u64)]
+        ensures { result.now ≡ self.now }
+    {
+        self.list.as_slice()
+    }
+
+    /// Each address stands in the list once. This changes nothing: its contract is the law.
+    pub(crate) fn once(&self)
+        ensures { AreOnce self.now }
+    {
+        let _list = self.list.as_slice();
     }
 
     /// Drops all words.

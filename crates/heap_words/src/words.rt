@@ -2,6 +2,9 @@
 ghost use Rattle.std.specs.Prelude.{◌≡◌, ◌≤◌, ℕ, Option, Some};
 ghost use Rattle.heap_words.specs.WordsLaws.{WordsLaws};
 
+/// Addresses from here on are those of a try's own words.
+pub const OWN: u32 = 4_000_000_000;
+
 /// Words that can be loaded by their addresses, from 0. Between two loads others may write words that are not final.
 /// The trait and its laws are complete: what a crate above needs of words, it takes from them.
 pub trait Words {
