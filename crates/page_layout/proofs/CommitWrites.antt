@@ -232,8 +232,8 @@ module _ (rooms : List Room) (table sizes : List ℕ) (laid : IsLaid rooms table
       (among_right (ready_words wakes) _ (1024 * r.page, encoded (Top r.top))
       (among_left (tops_of rooms) _ (1024 * r.page, encoded (Top r.top)) (tops_in rooms k r e lt))))
 
--- over a heap
-module _ (ws : List ℕ) (heap : IsHeap ws) (rooms : List Room) (table sizes : List ℕ) (laid : IsLaid rooms table sizes) (ps : List (List ℕ))
+-- over words of which only the tops are known
+module _ (ws : List ℕ) (rooms : List Room) (table sizes : List ℕ) (laid : IsLaid rooms table sizes) (ps : List (List ℕ))
     (sized : IsSized ps sizes) (n p : ℕ) (binds : WordList) (wakes : List ℕ) (finds : FindsCommit p binds wakes (inside_at ws))
     (tops : AreTops rooms (inside_at ws)) where
   free : AreFree rooms (inside_at ws)
@@ -242,8 +242,9 @@ module _ (ws : List ℕ) (heap : IsHeap ws) (rooms : List Room) (table sizes : L
   pub commit_planned : IsPlanned (moved_to table) n p binds ps wakes (tops_of rooms) (inside_at ws)
   commit_planned = planned rooms table sizes laid ps sized n p binds wakes (inside_at ws) finds tops free
 
-  pub commit_may : AreNamed ps → MayWrite ws (commit_writes (moved_to table) n p binds ps wakes (tops_of rooms))
-  commit_may named =
+  -- over a heap
+  pub commit_may : IsHeap ws → AreNamed ps → MayWrite ws (commit_writes (moved_to table) n p binds ps wakes (tops_of rooms))
+  commit_may heap named =
       may_write ws rooms (commit_writes (moved_to table) n p binds ps wakes (tops_of rooms)) heap laid.pages tops
       (apart_all rooms table sizes laid ps sized n p binds wakes (inside_at ws) finds tops free)
       (replaces rooms table sizes laid ps sized n p binds wakes (inside_at ws) finds tops free)

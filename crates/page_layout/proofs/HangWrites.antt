@@ -233,18 +233,18 @@ module _ (rooms : List Room) (table : List ℕ) (lists : WordList) (laid : IsLai
       let x = entry_at table n p 0 i.0 lists t from (omega arith) i.1 in
       (x.0, inr (among_right (head_words (entry_of table lists) lists) _ (t, x.0) (among_right (tops_of rooms) _ (t, x.0) x.1)))
 
--- over a heap
-module _ (ws : List ℕ) (heap : IsHeap ws) (rooms : List Room) (table : List ℕ) (lists : WordList)
-    (laid : IsLaid rooms table (threes (length lists))) (n p : ℕ) (finds : FindsHang p lists (inside_at ws))
-    (tops : AreTops rooms (inside_at ws)) where
+-- over words of which only the tops are known
+module _ (ws : List ℕ) (rooms : List Room) (table : List ℕ) (lists : WordList) (laid : IsLaid rooms table (threes (length lists))) (n p : ℕ)
+    (finds : FindsHang p lists (inside_at ws)) (tops : AreTops rooms (inside_at ws)) where
   free : AreFree rooms (inside_at ws)
   free = tops_free ws rooms laid.pages tops
 
   pub hang_planned : p < 0x100000000 → n < 0x100000000 → IsHangPlanned (entry_of table lists) n p lists (tops_of rooms) (inside_at ws)
   hang_planned = hang_plan rooms table lists laid n p (inside_at ws) finds tops free
 
-  pub hang_may : MayWrite ws (hang_writes (entry_of table lists) n p lists (tops_of rooms))
-  hang_may =
+  -- over a heap
+  pub hang_may : IsHeap ws → MayWrite ws (hang_writes (entry_of table lists) n p lists (tops_of rooms))
+  hang_may heap =
       subst (MayWrite ws) (sym (same_writes rooms table lists laid n p (inside_at ws) finds tops free))
       (may_write ws rooms (writes rooms table lists laid n p (inside_at ws) finds tops free) heap laid.pages tops
       (apart_all rooms table lists laid n p (inside_at ws) finds tops free)

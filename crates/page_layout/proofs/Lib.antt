@@ -1,4 +1,5 @@
 pub mod Filling
+pub mod Fitting
 pub mod Looking
 pub mod Putting
 pub mod Entries

@@ -1,9 +1,8 @@
 -- Where pieces go: free words of pages, and a table with the address of each word of the pieces.
-use Rattle.std.specs.Prelude.{◌≡◌, ◌⊎◌, ℕ, zero, suc, ◌+◌, ◌-◌, ◌*◌, ◌<◌, ◌≤◌, List, [], ◌∷◌, length, take, drop, true}
-use Rattle.std.specs.Prelude.{if◌then◌else◌, nat_lt, slice_get, unwrap_or, Option, Some}
-use Rattle.heap_words.specs.Cells.{decoded, encoded}
+use Rattle.std.specs.Prelude.{◌≡◌, ℕ, zero, suc, ◌+◌, ◌-◌, ◌*◌, ◌<◌, ◌≤◌, List, [], ◌∷◌, length, take, drop, true}
+use Rattle.std.specs.Prelude.{if◌then◌else◌, nat_lt, slice_get, unwrap_or, Some}
+use Rattle.heap_words.specs.Cells.{encoded}
 use Rattle.heap_words.specs.Trails.{WordList}
-use Rattle.heap_words.specs.declared.cell.Cell.{Cell}
 use Rattle.heap_words.specs.declared.cell.Cell.TheVariants.{Top}
 use Rattle.word_states.specs.Pieces.{is_process}
 use Rattle.page_layout.specs.declared.rooms.Room.{Room}
@@ -54,36 +53,6 @@ pub record IsLaid (rooms : List Room) (table sizes : List ℕ) : Type 0 where
   pub apart : (i j t : ℕ) → slice_get table i ≡ Some t → slice_get table j ≡ Some t → i ≡ j
   pub taken : (i t : ℕ) → slice_get table i ≡ Some t → (k : ℕ) × (r : Room) × (slice_get rooms k ≡ Some r) × (r.old ≤ t) × (t < r.top)
   pub full : (k t : ℕ) (r : Room) → slice_get rooms k ≡ Some r → r.old ≤ t → t < r.top → (i : ℕ) × (slice_get table i ≡ Some t)
-
--- what the first word of a page says where it is that page's top
-abbrev pub IsTopOf : ℕ → Option Cell → Type 0
-IsTopOf p (Some (Top t)) = (1024 * p < t) × (t ≤ 1024 * p + 1024)
-IsTopOf p _ = ⊥
-
--- a page was looked at: it is one of the rooms', or a load gave a first word that is no top of it
-abbrev pub WasLooked : {S : Type 0} → (S → S → ℕ → ℕ → Type 0) → S → S → List Room → ℕ → Type 0
-WasLooked gave before after rooms p = ((k : ℕ) × (r : Room) × (slice_get rooms k ≡ Some r) × (r.page ≡ p))
-    ⊎ ((x : ℕ) × gave before after (1024 * p) x × (IsTopOf p (decoded x) → ⊥))
-
--- none of the rooms has so many free words
-abbrev pub AllLack : List Room → ℕ → Type 0
-AllLack rooms need = (k : ℕ) (r : Room) → slice_get rooms k ≡ Some r → 1024 * r.page + 1024 < r.top + need
-
--- No page from `from` on has so many free words, after what was laid.
-pub record AreFull {S : Type 0} (gave : S → S → ℕ → ℕ → Type 0) (before after : S) (rooms : List Room) (from pages need : ℕ) : Type 0 where
-  pub looked : (p : ℕ) → from ≤ p → p < pages → WasLooked gave before after rooms p
-  pub lack : AllLack rooms need
-
--- More pages were looked at, all before `next`.
-pub record Looked {S : Type 0} (gave : S → S → ℕ → ℕ → Type 0) (before after : S) (rooms rooms' : List Room) (next : ℕ) : Type 0 where
-  pub kept : (k : ℕ) (r : Room) → slice_get rooms k ≡ Some r → slice_get rooms' k ≡ Some r
-  -- what was laid is still laid
-  pub laid : (table sizes : List ℕ) → IsLaid rooms table sizes → IsLaid rooms' table sizes
-  pub each : (k : ℕ) (r : Room) → slice_get rooms' k ≡ Some r → IsRoom r
-  pub below : (k : ℕ) (r : Room) → slice_get rooms' k ≡ Some r → r.page < next
-  -- loads gave the tops
-  pub tops : (k : ℕ) (r : Room) → slice_get rooms' k ≡ Some r
-      → (slice_get rooms k ≡ Some r) ⊎ gave before after (1024 * r.page) (encoded (Top r.old))
 
 -- the tops that rise
 abbrev pub tops_of : List Room → WordList

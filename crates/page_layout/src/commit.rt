@@ -43,7 +43,7 @@ fn put_top(writes: &mut Vec<Written>, room: Room) -> Result<(), NoMemory>
     requires { IsRoom room }
     ensures { OnOk result (Puts writes.old.items writes.new.items (λ n. tops_of (room ∷ []))) }
 {
-    if room.old < room.top {
+    if room.grew() {
         let word = encode(Cell::Top(room.top));
         put(writes, PAGE * room.page, word, 0)?;
     }

@@ -8,12 +8,12 @@ ghost use Rattle.page_layout.specs.Hangs.{threes, entry_of, heads_at, entries_at
 ghost use Rattle.page_layout.specs.Writing.{written, Puts};
 
 use crate::commit::put_tops;
-use crate::moves::{OWN, goes_to};
+use crate::moves::goes_to;
 use crate::pieces::{ZERO, put};
 use crate::rooms::Room;
 use crate::written::Written;
 use fcp_model::NoMemory;
-use heap_words::{Cell, encode};
+use heap_words::{Cell, OWN, encode};
 
 /// The word of the status of a process that waits by entry 0, and what it grows by from one entry to the next.
 const WAITING: u64 = 41;

@@ -10,7 +10,7 @@ mod rooms;
 mod written;
 
 pub use commit::put_commit;
-pub use follow::plans;
+pub use follow::{follows, plans};
 pub use hang::put_hang;
 pub use moves::{goes_to, relocate};
 pub use rooms::{Room, first_open, lay};

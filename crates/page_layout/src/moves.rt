@@ -3,10 +3,7 @@ ghost use Rattle.std.specs.Prelude.{◌≡◌};
 ghost use Rattle.word_states.specs.Layouts.{moved};
 ghost use Rattle.page_layout.specs.Laying.{moved_to};
 
-use heap_words::{Cell, decode, encode};
-
-/// The address of the first of a try's own words.
-pub(crate) const OWN: u32 = 4_000_000_000;
+use heap_words::{Cell, OWN, decode, encode};
 
 /// Where a word goes to which a try's word refers: those of the store stay.
 pub fn goes_to(table: &[u32], addr: u32) -> u32

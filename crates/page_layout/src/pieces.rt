@@ -7,9 +7,10 @@ ghost use Rattle.word_states.specs.Planning.{laid_rows};
 ghost use Rattle.page_layout.specs.Laying.{moved_to, total, cuts, AreNamed};
 ghost use Rattle.page_layout.specs.Writing.{Puts};
 
-use crate::moves::{OWN, goes_to, relocate};
+use crate::moves::{goes_to, relocate};
 use crate::written::Written;
 use fcp_model::NoMemory;
+use heap_words::OWN;
 
 /// The word of the small number 0, which is the name of place or process 0 of entry 0.
 pub(crate) const ZERO: u64 = 576_460_752_303_423_491;

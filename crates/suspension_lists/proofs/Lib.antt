@@ -1,7 +1,7 @@
 mod CellCases
 mod Gathering
 mod Hanging
-mod Keeping
+pub mod Keeping
 mod Knowing
 mod Lists
 mod Sorting

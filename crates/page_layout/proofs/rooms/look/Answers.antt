@@ -1,49 +1,31 @@
-use Rattle.std.proofs.Common.{◌≡◌, ◌+◌, ◌*◌, ◌<◌, ◌≤◌, true, sym, ◌∙◌, inl, ⊎_elim, true≢false, length}
+use Rattle.std.proofs.Common.{◌≡◌, ◌+◌, ◌*◌, ◌<◌, ◌≤◌, ◌∙◌, true, sym, ⊎_elim, true≢false}
 use Rattle.std.proofs.lemmas.Bool.{cases_lt}
-use Rattle.page_layout.proofs.Looking.{looked_still, looked_none, looked_room, lack_more, last_there}
+use Rattle.page_layout.proofs.Looking.{looked_none, looked_room, lack_more, last_with}
 use Rattle.page_layout.proofs.rooms.look.Goals as goal
 
 pub returns-in_default-clause-looked : goal.returns-in_default-clause-looked
 returns-in_default-clause-looked g c =
-    looked_none g.met.W.Words.laws c.args.words.now c.args.words.now c.room_of.new.words c.args.rooms.now.items c.args.rooms.now.items
-    c.args.page c.room_of.ensures.between
-    (looked_still g.met.W.Words.laws c.args.words.now c.args.words.now c.args.rooms.now.items c.args.page c.requires.rooms
-    c.requires.before)
+    looked_none c.args.trail.now.kept c.first_word.new.trail.kept c.args.rooms.now.items c.args.page c.in_ok-word.word
+    c.in_ok-word.ensures.loaded.went.grows c.requires.rooms c.requires.before c.in_ok-word.ensures.kept c.in_default.ensures.none
 
 pub returns-then-has-clause-looked : goal.returns-then-has-clause-looked
 returns-then-has-clause-looked g c =
     let r = c.in-Some.ensures.room in
     rw c.in_ok-at.ensures.1
-    (looked_room g.met.W.Words.laws c.args.words.now c.args.words.now c.room_of.new.words c.args.rooms.now.items c.args.rooms.now.items
-    c.args.page c.in-Some.room (g.met.W.Words.laws.still c.args.words.now c.requires.sound) c.room_of.ensures.between
-    (looked_still g.met.W.Words.laws c.args.words.now c.args.words.now c.args.rooms.now.items c.args.page c.requires.rooms
-    c.requires.before)
-    r.0 r.1 r.2 r.3)
-
-pub returns-then-has-clause-page : goal.returns-then-has-clause-page
-returns-then-has-clause-page g c =
-    rw c.in_ok-at.ensures.1
-    (inl (length c.args.rooms.now.items, c.in-Some.room, last_there c.args.rooms.now.items c.in-Some.room, c.in-Some.ensures.room.1))
+    (looked_room c.args.trail.now.kept c.first_word.new.trail.kept c.args.rooms.now.items c.args.page c.in_ok-word.word c.in-Some.room
+    c.in_ok-word.ensures.loaded.went.grows c.requires.rooms c.requires.before c.in_ok-word.ensures.kept r.0 r.1 r.2 r.3)
 
 pub returns-then-has-clause-fits : goal.returns-then-has-clause-fits
-returns-then-has-clause-fits g c =
+returns-then-has-clause-fits g c all =
     rw (c.in_ok-at.ensures.1, c.in_ok-at.ensures.0)
-    (c.in-Some.room, last_there c.args.rooms.now.items c.in-Some.room, c.has.ensures.0 c.if-has.true)
+    (last_with c.args.rooms.now.items c.in-Some.room c.args.need (c.has.ensures.0 c.if-has.true) all)
 
 pub returns-clause-looked : goal.returns-clause-looked
 returns-clause-looked g c =
     let r = c.in-Some.ensures.room in
     rw c.in_ok-at.ensures.1
-    (looked_room g.met.W.Words.laws c.args.words.now c.args.words.now c.room_of.new.words c.args.rooms.now.items c.args.rooms.now.items
-    c.args.page c.in-Some.room (g.met.W.Words.laws.still c.args.words.now c.requires.sound) c.room_of.ensures.between
-    (looked_still g.met.W.Words.laws c.args.words.now c.args.words.now c.args.rooms.now.items c.args.page c.requires.rooms
-    c.requires.before)
-    r.0 r.1 r.2 r.3)
-
-pub returns-clause-page : goal.returns-clause-page
-returns-clause-page g c =
-    rw c.in_ok-at.ensures.1
-    (inl (length c.args.rooms.now.items, c.in-Some.room, last_there c.args.rooms.now.items c.in-Some.room, c.in-Some.ensures.room.1))
+    (looked_room c.args.trail.now.kept c.first_word.new.trail.kept c.args.rooms.now.items c.args.page c.in_ok-word.word c.in-Some.room
+    c.in_ok-word.ensures.loaded.went.grows c.requires.rooms c.requires.before c.in_ok-word.ensures.kept r.0 r.1 r.2 r.3)
 
 pub returns-clause-lack : goal.returns-clause-lack
 returns-clause-lack g c all =
