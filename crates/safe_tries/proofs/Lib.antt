@@ -1,0 +1,4 @@
+pub mod KeptMore
+pub mod OpenedValues
+pub mod Unifications
+pub mod Cuts
