@@ -9,7 +9,7 @@ ghost use Rattle.trial_laws.specs.Unifying.{LawOfUnify, LawOfClash, LawOfPause};
 ghost use Rattle.trial_laws.specs.Testing.{LawOfHolds, LawOfFails, LawOfWaits, LawOfOtherwise, LawOfNotOtherwise};
 ghost use Rattle.trial_laws.specs.BuiltIns.{LawOfTrue, LawOfEquals, LawOfAssign, LawOfBadAssign, LawOfUnreadyAssign};
 ghost use Rattle.trial_laws.specs.Leading.{LedByMore, LedSlot, LedVariable, LedPair, LedTuple, LedOperation, LedWide, LedChild};
-ghost use Rattle.trial_laws.specs.Leading.{LedFirst, LedTry, LedUnification, LedCommit, TermsStand};
+ghost use Rattle.trial_laws.specs.Leading.{LedFirst, LedTry, LedLeft, LedUnification, LedCommit, TermsStand};
 ghost use Rattle.trial_laws.specs.Endings.{LawOfCommit, LawOfFail, LawOfWait};
 
 /// A trial and a try begin, a try is left, and the slots take the goal's arguments again.
@@ -95,6 +95,7 @@ pub fn leads()
     ensures child { LedChild }
     ensures first_ { LedFirst }
     ensures begins { LedTry }
+    ensures leaving { LedLeft }
     ensures unification { LedUnification }
     ensures commit { LedCommit }
     ensures terms { TermsStand }
