@@ -12,8 +12,8 @@ use Rattle.trial_laws.specs.AtHand.{end_of}
 use Rattle.trial_laws.specs.Laws.{places_for}
 use Rattle.trial_machine.specs.Cuts.{cut, total}
 use Rattle.trial_laws.proofs.Pieces.{none_low}
-use Rattle.trial_machine.specs.Besides.{own_at}
-use Rattle.trial_machine.specs.BesideLaws.{own_low, own_high}
+use Rattle.beside_words.specs.Besides.{own_at}
+use Rattle.beside_words.specs.BesideLaws.{own_low, own_high}
 
 take_all : (p : List ℕ) → take (length p) p ≡ p
 take_all [] = refl

@@ -2,7 +2,6 @@
 #![tactic(auto)]
 
 mod begin;
-mod beside;
 mod child;
 mod constant;
 mod desk;
@@ -13,7 +12,6 @@ mod put;
 mod slots;
 mod unify;
 
-pub use beside::Beside;
 pub use desk::Desk;
 pub use pieces::Pieces;
 pub use slots::Slots;

@@ -4,7 +4,7 @@ ghost use Rattle.heap_words.specs.Trails.{word_at};
 ghost use Rattle.word_states.specs.Pieces.{rows, StartsAt};
 ghost use Rattle.trial_laws.specs.AtHand.{end_of, ArePieces};
 ghost use Rattle.trial_laws.specs.Laws.{IsFilled, places_for};
-ghost use Rattle.trial_machine.specs.Besides.{own_at};
+ghost use Rattle.beside_words.specs.Besides.{own_at};
 
 use fcp_model::NoMemory;
 use std::alloc::Global;

@@ -1,5 +1,5 @@
 use Rattle.std.proofs.Common.{ap, ◌∙◌}
-use Rattle.trial_machine.specs.Besides.{own_at}
+use Rattle.beside_words.specs.Besides.{own_at}
 use Rattle.trial_machine.proofs.Cutting.{flat}
 use Rattle.trial_machine.proofs.pieces.Pieces.words.Goals as goal
 

@@ -2,6 +2,7 @@
 use Rattle.std.specs.Prelude.{◌≡◌, ℕ, ◌+◌, ◌-◌, ◌<◌, ◌≤◌, ◌⊎◌, true, List, Option, Some, None, if◌then◌else◌, nat_lt, slice_get, length}
 use Rattle.heap_words.specs.Cells.{decoded, is_final_word}
 use Rattle.heap_words.specs.Refers.{Refers, RefersBy, HasPart, HasPartBy, teller}
+use Rattle.heap_words.specs.WordsLaws.{Acyclic}
 use Rattle.heap_words.specs.Heaps.{only_final}
 use Rattle.heap_words.specs.declared.cell.Cell.{Cell}
 use Rattle.heap_words.specs.declared.cell.Cell.TheVariants.{Raw, Status}
@@ -41,3 +42,18 @@ pub record OwnWords (knows leads : ℕ → Type 0) (ws : List ℕ) : Type 0 wher
 -- the words that are shown below, and the final own ones
 abbrev pub either : (ℕ → Option ℕ) → List ℕ → ℕ → Option ℕ
 either shown ws a = if nat_lt a 4000000000 then shown a else only_final (own_at ws a)
+
+-- The store is sound and has no address of own words, the own words fit beside it, and whatever it shows later, final words have no
+-- cycle.
+abbrev pub SoundBeside : {S : Type 0} → (S → ℕ) → (S → Type 0) → (S → ℕ → Type 0) → (S → ℕ → Type 0) → (S → ℕ → Option ℕ) → (S → S → Type 0)
+    → S → List ℕ → Type 0
+SoundBeside addresses is_sound knows leads shown later w ws = (is_sound w) × (addresses w ≤ 4000000000)
+    × OwnWords (knows w) (leads w) ws × ((v : _) → later w v → Acyclic (either (shown v) ws))
+
+-- the word was loaded from the store, or is an own one
+abbrev pub HadBeside : {S : Type 0} → (S → ℕ → ℕ → Type 0) → S → List ℕ → ℕ → ℕ → Type 0
+HadBeside had w ws a x = (had w a x × (a < 4000000000)) ⊎ (own_at ws a ≡ Some x)
+
+-- the word leads to words of the store alone, or to own ones too
+abbrev pub LeadsBeside : {S : Type 0} → (S → ℕ → Type 0) → (S → ℕ → Type 0) → S → List ℕ → ℕ → Type 0
+LeadsBeside knows leads w ws x = leads w x ⊎ InOwn (knows w) ws x

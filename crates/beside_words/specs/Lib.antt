@@ -1,0 +1,3 @@
+pub mod Besides
+pub mod Loads
+pub mod BesideLaws
