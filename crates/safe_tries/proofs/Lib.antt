@@ -1,0 +1,4 @@
+pub mod Steps
+pub mod SlotLaws
+pub mod NewPieces
+pub mod PutLaws

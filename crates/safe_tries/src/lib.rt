@@ -1,0 +1,16 @@
+//! What is at hand for a try is safe: it leads on, its walks end, and what it binds and reads was unbound. One law for each
+//! instruction.
+#![tactic(auto)]
+
+ghost use Rattle.safe_tries.specs.Puts.{SafeVariable, SafeConstant, SafePair, SafeTuple, SafeOperation, SafeWide, SafeChild};
+
+/// A slot takes a term.
+pub fn puts()
+    ensures variable { SafeVariable }
+    ensures constant { SafeConstant }
+    ensures pair { SafePair }
+    ensures tuple { SafeTuple }
+    ensures operation { SafeOperation }
+    ensures wide { SafeWide }
+    ensures child { SafeChild }
+{}
