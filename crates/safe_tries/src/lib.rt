@@ -3,6 +3,7 @@
 #![tactic(auto)]
 
 ghost use Rattle.safe_tries.specs.Puts.{SafeVariable, SafeConstant, SafePair, SafeTuple, SafeOperation, SafeWide, SafeChild};
+ghost use Rattle.safe_tries.specs.Puts.{SafeFirst, SafeReset, SafeTry};
 
 /// A slot takes a term.
 pub fn puts()
@@ -13,4 +14,11 @@ pub fn puts()
     ensures operation { SafeOperation }
     ensures wide { SafeWide }
     ensures child { SafeChild }
+{}
+
+/// A variable takes a term at its first occurrence, slots hold the arguments again, and a try begins.
+pub fn begins()
+    ensures first_ { SafeFirst }
+    ensures reset { SafeReset }
+    ensures begins { SafeTry }
 {}
