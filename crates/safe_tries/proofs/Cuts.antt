@@ -1,26 +1,26 @@
 -- The pieces that a test put are cut: what was at hand before them is safe over what the test kept.
-use Rattle.std.proofs.Common.{◌≡◌, ◌⊎◌, ℕ, zero, suc, ◌+◌, ◌<◌, ◌≤◌, Bool, true, false, List, [], ◌∷◌, ◌++◌, length, refl, sym, ap, ◌∙◌}
-use Rattle.std.proofs.Common.{subst, inl, inr, ⊎_elim, arith, true≢false, Option, Some, None}
-use Rattle.std.specs.Prelude.{slice_get, unwrap_or, ◌&&◌, nat_lt}
+use Rattle.std.proofs.Common.{◌≡◌, ◌⊎◌, ℕ, ◌+◌, ◌<◌, ◌≤◌, Bool, true, false, List, [], ◌∷◌, ◌++◌, length, refl, sym, ap, ◌∙◌}
+use Rattle.std.proofs.Common.{subst, inl, inr, ⊎_elim, arith, Option, Some, None}
+use Rattle.std.specs.Prelude.{unwrap_or, ◌&&◌, nat_lt}
 use Rattle.std.proofs.lemmas.Bool.{lt-ltb}
 use Rattle.std.proofs.lemmas.Bool.Decides.{nat_tests}
-use Rattle.std.proofs.lemmas.Option.{same_Some}
-use Rattle.heap_words.specs.Cells.{decoded, is_final_word, is_final_in}
+use Rattle.heap_words.specs.Cells.{decoded}
 use Rattle.heap_words.specs.Trails.{WordList, Memory, AreOnce, word_at}
 use Rattle.ro_unify.specs.declared.occurrence.Whole.{Whole}
 use Rattle.ro_unify.specs.declared.occurrence.Whole.TheVariants as whole
 use Rattle.ro_unify.specs.Occurs.{whole_of, count_of}
 use Rattle.ro_unify.specs.Walks.{first_some, IsSeen, seen_memory, Node, place, part, count, address, IsPartOf, Goes, Edge, Tame}
 use Rattle.ro_unify.proofs.Seeing.{nil_goes}
-use Rattle.word_states.specs.Pieces.{StartsAt, AreFinal}
+use Rattle.word_states.specs.Pieces.{StartsAt}
 use Rattle.word_states.proofs.Pieces.{in_rows, rows_in, starts_above}
 use Rattle.machine_code.specs.Fresh.{Tops}
 use Rattle.trial_laws.specs.AtHand.{AtHand, end_of}
-use Rattle.trial_laws.proofs.Pieces.{starts_left, starts_below}
+use Rattle.trial_laws.proofs.Pieces.{starts_left}
 use Rattle.trial_laws.proofs.Slots.{nil_is}
 use Rattle.safe_tries.specs.Safe.{IsSafe, SawOpen, own_words}
 use Rattle.safe_tries.specs.Loads.{Kept}
 use Rattle.safe_tries.specs.Puts.{Puts, SafeCut}
+use Rattle.safe_tries.proofs.Steps.{end_above, seen_kept, seen_near}
 use Rattle.safe_tries.proofs.KeptMore.{safe_more, more_edges}
 
 -- a piece of two lists is one of the first or of the second
@@ -29,23 +29,6 @@ starts_either : (b : ℕ) (ps qs : List (List ℕ)) (a : ℕ) (p : List ℕ) →
 starts_either b [] qs a p h = inr h
 starts_either b (q ∷ ps) qs a p (inl h) = inl (inl h)
 starts_either b (q ∷ ps) qs a p (inr h) = ⊎_elim (λ k. inl (inr k)) (λ k. inr k) (starts_either (b + length q) ps qs a p h)
-
--- a word of final ones
-final_at : (p : List ℕ) → AreFinal p → (d x : ℕ) → slice_get p d ≡ Some x → is_final_word x ≡ true
-final_at [] h d x e = let k : None ≡ Some x = e in cc
-final_at (y ∷ p) h zero x e = subst (λ (z : ℕ). is_final_word z ≡ true) (same_Some _ _ e) h.0
-final_at (y ∷ p) h (suc d) x e = final_at p h.1 d x e
-
-end_high : (ps : List (List ℕ)) (b : ℕ) → b ≤ end_of b ps
-end_high [] b = omega arith
-end_high (p ∷ ps) b = let k = end_high ps (b + length p) in omega (arith, k)
-
--- an own word stands below the end of the pieces
-own_end : (ps : List (List ℕ)) (a x : ℕ) → own_words ps a ≡ Some x → a < end_of 4000000000 ps
-own_end ps a x e =
-    let q = in_rows 4000000000 a x ps e in
-    let l = starts_below 4000000000 ps q.0 q.2 q.3 in
-    let d = q.4 in let c = q.5 in omega (arith, l, d, c)
 
 module _ (ps more : List (List ℕ)) where
   -- with more pieces an own word stays
@@ -182,19 +165,11 @@ module _ (kept : WordList) (b : AtHand) (τ : Tops) (released : ℕ) (h : IsSafe
 
   near : (x y : Node) → Edge b.binds (seen_memory kept' (own_words b.pieces)) x y → address y < end_of 4000000000 b.pieces
   near x y e =
-      ⊎_elim (λ o. h.tame.within x y o) (λ l. let z = end_high b.pieces 4000000000 in omega (arith, z, l))
+      ⊎_elim (λ o. h.tame.within x y o) (λ l. let z = end_above 4000000000 b.pieces in omega (arith, z, l))
       (more_edges kept kept' b.pieces once grows k.below k.low b.binds h.led.bound h.led.own x y e)
 
   bound_near : (a x : ℕ) → word_at b.binds a ≡ Some x → a < end_of 4000000000 b.pieces
-  bound_near a x e = go (word_at kept a) refl
-    where
-      saw : SawOpen kept b a
-      saw = h.bound_open a x e
-
-      go : (o : Option ℕ) → word_at kept a ≡ o → a < end_of 4000000000 b.pieces
-      go (Some y) f = let l = h.below a y f in let z = end_high b.pieces 4000000000 in omega (arith, z, l)
-      go None f =
-          own_end b.pieces a saw.0 (sym (ap (λ (o : Option ℕ). first_some o (own_words b.pieces a)) f) ∙ saw.2)
+  bound_near a x e = let o = h.bound_open a x e in seen_near kept b.pieces h.below a o.0 o.2
 
   pub kept_cut : Kept kept b kept'
   kept_cut = record {
@@ -205,36 +180,9 @@ module _ (kept : WordList) (b : AtHand) (τ : Tops) (released : ℕ) (h : IsSafe
     tame = tame_cut b.binds kept' b.pieces p.more (end_of 4000000000 r.pieces) tame_all near bound_near;
   }
 
-  -- a place that the test read was there before
-  pub read_before : (a : ℕ) → SawOpen kept' r a → SawOpen kept' b a
-  read_before a o = go (word_at kept' a) refl
-    where
-      not_final : is_final_word o.0 ≡ true → ⊥
-      not_final f = true≢false (sym f ∙ ap is_final_in o.3)
-
-      of_own : own_words (b.pieces ++ p.more) a ≡ Some o.0 → own_words b.pieces a ≡ Some o.0
-      of_own e =
-          let s = in_rows 4000000000 a o.0 (b.pieces ++ p.more) e in
-          ⊎_elim (λ i. subst (λ (c : ℕ). own_words b.pieces c ≡ Some o.0) (sym s.5) (rows_in 4000000000 s.0 s.1 o.0 b.pieces s.2 i s.6))
-          (λ i. absurd (not_final (final_at s.2 (p.terms s.0 s.2 i) s.1 o.0 s.6)))
-          (starts_either 4000000000 b.pieces p.more s.0 s.2 s.3)
-
-      go : (w : Option ℕ) → word_at kept' a ≡ w → SawOpen kept' b a
-      go (Some y) e = (
-        o.0,
-        o.1,
-        ap (λ (w : Option ℕ). first_some w (own_words b.pieces a)) e
-            ∙ (sym (ap (λ (w : Option ℕ). first_some w (own_words r.pieces a)) e) ∙ o.2),
-        o.3,
-      )
-      go None e =
-          let f : own_words r.pieces a ≡ Some o.0 = sym (ap (λ (w : Option ℕ). first_some w (own_words r.pieces a)) e) ∙ o.2 in (
-            o.0,
-            o.1,
-            ap (λ (w : Option ℕ). first_some w (own_words b.pieces a)) e
-                ∙ of_own (subst (λ (ps : List (List ℕ)). own_words ps a ≡ Some o.0) p.pieces f),
-            o.3,
-          )
+  -- a place of the store that the test read is one that was kept
+  pub read_before : (a : ℕ) → a < 4000000000 → SawOpen kept' r a → SawOpen kept' b a
+  read_before a l o = (o.0, o.1, seen_kept kept' b.pieces a l ∙ (sym (seen_kept kept' r.pieces a l) ∙ o.2), o.3)
 
 pub safe_cut : SafeCut
 safe_cut kept b τ released h kept' r υ q once k p grows =
@@ -256,11 +204,12 @@ safe_cut kept b τ released h kept' r υ q once k p grows =
         place = s.topped.place;
         climbs = s.topped.climbs;
         slots = s.topped.slots;
+        near = s.topped.near;
         bound = s.topped.bound;
         unfilled = s.topped.unfilled;
       };
       bound_open = s.bound_open;
-      read_open = λ a i. read_before kept b τ released h kept' r υ q once k p grows a (k.read_open a i);
+      read_open = λ a i l. read_before kept b τ released h kept' r υ q once k p grows a l (k.read_open a i l);
       waits_open = k.waits_open;
       waits_apart = k.waits_apart;
     }

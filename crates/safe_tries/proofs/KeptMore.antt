@@ -5,25 +5,24 @@ use Rattle.std.specs.Prelude.{slice_get, unwrap_or, max}
 use Rattle.std.proofs.lemmas.Option.{same_Some}
 use Rattle.heap_words.specs.Cells.{decoded, is_final_word, is_final_in}
 use Rattle.heap_words.specs.Trails.{WordList, Memory, AreOnce, word_at}
-use Rattle.heap_words.specs.declared.cell.Cell.TheVariants.{Cons, Tuple}
+use Rattle.heap_words.specs.declared.cell.Cell.TheVariants.{Tuple}
 use Rattle.ro_unify.specs.declared.occurrence.Whole.{Whole}
 use Rattle.ro_unify.specs.declared.occurrence.Whole.TheVariants as whole
 use Rattle.ro_unify.specs.Value.{leads_on}
 use Rattle.ro_unify.specs.Occurs.{whole_of, count_of}
 use Rattle.ro_unify.specs.Walks.{first_some, seen_at, seen_memory, Node, place, part, count, address, IsPlaceOf, IsPartOf, IsCountOf}
 use Rattle.ro_unify.specs.Walks.{Goes, Edge}
-use Rattle.ro_unify.proofs.Leads.{place_stands, is_pair, is_tuple_at, is_raw}
+use Rattle.ro_unify.proofs.Leads.{place_stands, is_pair, is_tuple_at}
 use Rattle.ro_unify.proofs.Seeing.{nil_goes}
 use Rattle.word_states.specs.Words.{Among}
 use Rattle.word_states.specs.Pieces.{rows, RefersOwn}
 use Rattle.word_states.specs.Led.{LeadsOn, was_read, of_known}
 use Rattle.word_states.proofs.Lists.{word_among, among_word}
 use Rattle.word_states.proofs.Pieces.{rows_above, starts_above}
-use Rattle.trial_laws.proofs.Pieces.{none_low}
 use Rattle.trial_laws.proofs.LedPieces.{led_by_more}
-use Rattle.trial_laws.proofs.Slots.{nil_is}
 use Rattle.safe_tries.specs.Safe.{StayLow, SawOpen, own_words}
 use Rattle.safe_tries.specs.Loads.{SafeMore}
+use Rattle.safe_tries.proofs.Steps.{end_above, none_kept, kept_low}
 
 -- where a word stands in a list
 position : (ws : WordList) (z : ℕ × ℕ) → Among ws z → (i : ℕ) × (slice_get ws i ≡ Some z)
@@ -78,13 +77,6 @@ module _ (kept kept' : WordList) (ps : List (List ℕ)) (once : AreOnce kept)
       go None f = f
       go (Some x) f = absurd (let k : Some x ≡ None = sym (grows a x f) ∙ e in cc)
 
-  none_high : (a : ℕ) → 4000000000 ≤ a → word_at kept' a ≡ None
-  none_high a l = go (word_at kept' a) refl
-    where
-      go : (o : Option ℕ) → word_at kept' a ≡ o → word_at kept' a ≡ None
-      go None f = f
-      go (Some x) f = absurd (let k = below a x f in omega arith)
-
   -- where the second list has no word, what was seen is the same
   same_none : (a : ℕ) → word_at kept' a ≡ None → m' a ≡ m a
   same_none a e =
@@ -93,40 +85,6 @@ module _ (kept kept' : WordList) (ps : List (List ℕ)) (once : AreOnce kept)
 
   kept_word : (a x : ℕ) → word_at kept' a ≡ Some x → m' a ≡ x
   kept_word a x e = ap (λ (o : Option ℕ). unwrap_or (first_some o (own_words ps a)) 6) e
-
-  -- from a kept word a walk goes on in the store
-  low_goes : (a x : ℕ) (b : Node) → word_at kept' a ≡ Some x → Goes m' x b → address b < 4000000000
-  low_goes a x (place q) e r = go (leads_on false (decoded x)) refl r
-    where
-      go : (o : Option (Bool × ℕ)) → leads_on false (decoded x) ≡ o → IsPlaceOf o q → q < 4000000000
-      go (Some p) f i = let t = place_stands (decoded x) false p.0 p.1 f in low.refers a q x t.cell e t.is (t.refers q (inl i))
-      go None f i = absurd i
-  low_goes a x (count q) e r = go (whole_of (decoded x)) refl r
-    where
-      go : (o : Whole) → whole_of (decoded x) ≡ o → IsCountOf o q → q < 4000000000
-      go whole.Atom f i = absurd i
-      go (whole.Pair c) f i = absurd i
-      go (whole.Tuple c) f i = low.refers a q x (Tuple c) e (is_tuple_at (decoded x) c f) i
-  low_goes a x (part q) e r = go (whole_of (decoded x)) refl r
-    where
-      tuple : (c : ℕ) → whole_of (decoded x) ≡ whole.Tuple c → (c < q) × (q ≤ c + count_of (decoded (m' c))) → (o : Option ℕ)
-          → word_at kept' c ≡ o → q < 4000000000
-      tuple c f i (Some y) g =
-          let n = is_raw (decoded (m' c)) (omega (arith, i)) in
-          low.refers_by a q x c y n.0 (Tuple c) e (is_tuple_at (decoded x) c f) refl g (ap decoded (sym (kept_word c y g)) ∙ n.1)
-          (i.0, omega (arith, i, n.2))
-      tuple c f i None g =
-          let l : c < 4000000000 = low.refers a c x (Tuple c) e (is_tuple_at (decoded x) c f) refl in
-          let s : m' c ≡ 6 = ap (λ (o : Option ℕ). unwrap_or (first_some o (own_words ps c)) 6) g
-          ∙ ap (λ (o : Option ℕ). unwrap_or o 6) (none_low ps c l) in
-          let z : count_of (decoded (m' c)) ≡ 0 = ap (λ (y : ℕ). count_of (decoded y)) s ∙ ap count_of nil_is in
-          absurd (omega (arith, i, z))
-
-      go : (o : Whole) → whole_of (decoded x) ≡ o → IsPartOf m' o q → q < 4000000000
-      go whole.Atom f i = absurd i
-      go (whole.Pair c) f i =
-          low.refers a q x (Cons c) e (is_pair (decoded x) c f) (⊎_elim (λ j. inl j) (λ j. inr (let k : q ≡ suc c = omega arith in k)) i)
-      go (whole.Tuple c) f i = tuple c f i (word_at kept' c) refl
 
   -- a word that leads on goes on as before, or in the store
   pub more_goes : (x : ℕ) (b : Node) → LeadsOn kept ps x → Goes (seen_memory kept' (own_words ps)) x b
@@ -137,11 +95,11 @@ module _ (kept kept' : WordList) (ps : List (List ℕ)) (once : AreOnce kept)
     where
       tuple : (c : ℕ) → decoded x ≡ Some (Tuple c) → (c < q) × (q ≤ c + count_of (decoded (m' c))) → LeadsOn kept ps x
           → ((c < q) × (q ≤ c + count_of (decoded (m c)))) ⊎ (q < 4000000000)
-      tuple c e i (inl (was_read a h)) = inr (low_goes a x (part q) (grows a x (once_word kept once a x h)) r)
+      tuple c e i (inl (was_read a h)) = inr (kept_low kept' ps low a x (part q) (grows a x (once_word kept once a x h)) r)
       tuple c e i (inl (of_known h)) = absurd (let k : Some c ≡ None = (h (Tuple c) e).0 in cc)
       tuple c e i (inr h) =
           let k : RefersOwn ps (Tuple c) = subst (RefersOwn ps) (same_Some _ _ (sym h.1 ∙ e)) h.2 in
-          let s = same_none c (none_high c (starts_above 4000000000 ps c _ k.3)) in
+          let s = same_none c (none_kept kept' below c (starts_above 4000000000 ps c _ k.3)) in
           inl (i.0, subst (λ (y : ℕ). q ≤ c + count_of (decoded y)) s i.1)
 
       go : (o : Whole) → whole_of (decoded x) ≡ o → IsPartOf m' o q → IsPartOf m o q ⊎ (q < 4000000000)
@@ -165,7 +123,7 @@ module _ (kept kept' : WordList) (ps : List (List ℕ)) (once : AreOnce kept)
             ⊎_elim (λ k. inl (subst (λ (y : ℕ). Goes m y b) (sym s) k)) (λ k. inr k) (more_goes x b (own a x f (goes_final m' x b g)) g)
 
         go : (o : Option ℕ) → word_at kept' a ≡ o → Goes m (m a) b ⊎ (address b < 4000000000)
-        go (Some x) e = inr (low_goes a x b e (subst (λ (y : ℕ). Goes m' y b) (kept_word a x e) r))
+        go (Some x) e = inr (kept_low kept' ps low a x b e (subst (λ (y : ℕ). Goes m' y b) (kept_word a x e) r))
         go None e = of_own e (own_words ps a) refl
 
     -- each step of a walk is one as before, or leads into the store
@@ -189,7 +147,7 @@ module _ (kept kept' : WordList) (ps : List (List ℕ)) (once : AreOnce kept)
           ap (λ (o : Option ℕ). first_some o (own_words ps a)) (grows a x (f ∙ g))
       go None f =
           let g : own_words ps a ≡ Some x = sym (ap (λ (o : Option ℕ). first_some o (own_words ps a)) f) ∙ e in
-          ap (λ (o : Option ℕ). first_some o (own_words ps a)) (none_high a (rows_above 4000000000 a x ps g)) ∙ g
+          ap (λ (o : Option ℕ). first_some o (own_words ps a)) (none_kept kept' below a (rows_above 4000000000 a x ps g)) ∙ g
 
 pub safe_more : SafeMore
 safe_more kept r τ released h kept' k = record {
@@ -206,11 +164,14 @@ safe_more kept r τ released h kept' k = record {
         (more_edges kept kept' r.pieces k.once k.grows k.below k.low r.binds h.led.bound h.led.own a b e);
     slots = λ i b g. ⊎_elim (λ o. h.topped.slots i b o) (λ l. stored b (τ i) l)
         (more_goes kept kept' r.pieces k.once k.grows k.below k.low (r.slots i) b (h.led.slots i) g);
+    near = λ i b g. ⊎_elim (λ o. h.topped.near i b o)
+        (λ l. let z = end_above 4000000000 r.pieces in omega (arith, z, l))
+        (more_goes kept kept' r.pieces k.once k.grows k.below k.low (r.slots i) b (h.led.slots i) g);
     bound = h.topped.bound;
     unfilled = h.topped.unfilled;
   };
   bound_open = λ a x e. open_more a (h.bound_open a x e);
-  read_open = λ a i. open_more a (h.read_open a i);
+  read_open = λ a i l. open_more a (h.read_open a i l);
   waits_open = λ a i. let o = h.waits_open a i in (o.0, o.1, k.grows a o.0 o.2, o.3);
   waits_apart = h.waits_apart;
 }

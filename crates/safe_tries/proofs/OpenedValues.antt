@@ -23,7 +23,7 @@ use Rattle.word_states.specs.Pieces.{rows}
 use Rattle.word_states.specs.Led.{LeadsOn, was_read}
 use Rattle.word_states.proofs.Lists.{word_among}
 use Rattle.machine_code.specs.Fresh.{Tops, topped, all_topped}
-use Rattle.trial_laws.specs.AtHand.{AtHand, term_word}
+use Rattle.trial_laws.specs.AtHand.{AtHand, term_word, end_of}
 use Rattle.trial_laws.specs.Laws.{holding}
 use Rattle.trial_laws.specs.Opening.{pair_in, pair_at, is_count, tuple_in, tuple_at, holding_all, LookAt}
 use Rattle.trial_laws.specs.Leading.{IsTermWord}
@@ -36,6 +36,7 @@ pub record Fits (kept : WordList) (r : AtHand) (f : ℕ → ℕ) (t x : ℕ) : T
   pub leads : LeadsOn kept r.pieces x
   pub term : IsTermWord x
   pub comes : (b : Node) → Goes (seen kept r) x b → f (address b) ≤ t
+  pub near : (b : Node) → Goes (seen kept r) x b → address b < end_of 4000000000 r.pieces
 
 -- what is at hand is safe by this bound
 abbrev pub SafeBy : WordList → AtHand → Tops → ℕ → (ℕ → ℕ) → Type 0
@@ -56,6 +57,7 @@ hold_slot kept r τ released f s j x t g = (
       place = s.0.topped.place;
       climbs = s.0.topped.climbs;
       slots = λ i b. at_slot i b (nat_eq i j);
+      near = λ i b. near_slot i b (nat_eq i j);
       bound = s.0.topped.bound;
       unfilled = s.0.topped.unfilled;
     };
@@ -72,6 +74,10 @@ hold_slot kept r τ released f s j x t g = (
     at_slot i b true e = subst (λ (k : ℕ → ℕ). k (address b) ≤ max t released) (sym s.1) (g.comes b e)
     at_slot i b false e = s.0.topped.slots i b e
 
+    near_slot : (i : ℕ) (b : Node) (c : Bool) → Goes (seen kept r) (cond c x (r.slots i)) b → address b < end_of 4000000000 r.pieces
+    near_slot i b true e = g.near b e
+    near_slot i b false e = s.0.topped.near i b e
+
 -- so many slots take the words after an address
 hold_after : (n : ℕ) (kept : WordList) (r : AtHand) (τ : Tops) (released : ℕ) (f : ℕ → ℕ) → SafeBy kept r τ released f → (from c t : ℕ)
     → ((b : ℕ) → c < b → b ≤ c + n → Fits kept r f (max t released) (seen kept r b))
@@ -80,7 +86,7 @@ hold_after zero kept r τ released f s from c t fits = s
 hold_after (suc n) kept r τ released f s from c t fits =
     hold_after n kept (holding r from (seen kept r (c + 1)) false) (topped τ from t) released f
     (hold_slot kept r τ released f s from (seen kept r (c + 1)) t (fits (c + 1) (omega arith) (omega arith))) (suc from) (c + 1) t
-    (λ b l u. let k = fits b (omega arith) (omega arith) in record { leads = k.leads; term = k.term; comes = k.comes })
+    (λ b l u. let k = fits b (omega arith) (omega arith) in record { leads = k.leads; term = k.term; comes = k.comes; near = k.near })
 
 -- a step of a value goes through a place
 step_on : (bs : WordList) (m : Memory) (only o : Bool) (w x : ℕ) (s : Step) → Stepped bs m only w s → s ≡ On o x
@@ -136,6 +142,7 @@ module _ (kept : WordList) (r : AtHand) (τ : Tops) (released : ℕ) (h : IsSafe
     leads = seen_leads a term;
     term = term;
     comes = λ b g. let k = h.topped.climbs (part a) b g in omega (arith, k, near, less);
+    near = λ b g. h.tame.within (part a) b g;
   }
 
   -- from the value of a slot walks come no further than from the slot
@@ -163,7 +170,7 @@ module _ (kept : WordList) (r : AtHand) (τ : Tops) (released : ℕ) (h : IsSafe
       (near (part (c + 1)) (subst (λ (o : Whole). IsPartOf (seen kept r) o (c + 1)) (sym to) (inr refl))) (omega arith) in
       hold_slot kept (holding r left (seen kept r c) false) (topped τ left (τ i)) released h.topped.high
       (hold_slot kept r τ released h.topped.high (h, refl) left (seen kept r c) (τ i) one) right (seen kept r (c + 1)) (τ i)
-      (record { leads = two.leads; term = two.term; comes = two.comes })
+      (record { leads = two.leads; term = two.term; comes = two.comes; near = two.near })
 
   -- and those of a tuple
   tuple_opened : (i from n x c : ℕ) (l : Look) → LookAt r (seen kept r) i l → l ≡ Solid x → decoded x ≡ Some (Tuple c)

@@ -47,16 +47,20 @@ of_each P [] h a i = absurd i
 of_each P (x ∷ xs) h a (inl i) = subst P i h.0
 of_each P (x ∷ xs) h a (inr i) = of_each P xs h.1 a i
 
+-- so for an address of the store
+abbrev StoreOpen : WordList → AtHand → ℕ → Type 0
+StoreOpen kept r a = a < 4000000000 → SawOpen kept r a
+
 pub unification_reads : UnificationReads
 unification_reads kept r τ released h i j e u a n =
     go e
-    (reads_so (seen kept r) r.binds r.reads ((term_word r i, term_word r j) ∷ []) e (SawOpen kept r) (open_saw kept r) u
-    (each_of (SawOpen kept r) r.reads h.read_open)) n
+    (reads_so (seen kept r) r.binds r.reads ((term_word r i, term_word r j) ∷ []) e (StoreOpen kept r) (λ b o l. open_saw kept r b o) u
+    (each_of (StoreOpen kept r) r.reads h.read_open)) n
   where
-    go : (e : Ended) → Each (SawOpen kept r) (reads_ended e) → IsIn a (reads_at e) → SawOpen kept r a
-    go (done bs rs) g k = of_each (SawOpen kept r) rs g a k
-    go (clash rs) g k = of_each (SawOpen kept r) rs g a k
-    go (stop rs) g k = of_each (SawOpen kept r) rs g a k
+    go : (e : Ended) → Each (StoreOpen kept r) (reads_ended e) → IsIn a (reads_at e) → StoreOpen kept r a
+    go (done bs rs) g k = of_each (StoreOpen kept r) rs g a k
+    go (clash rs) g k = of_each (StoreOpen kept r) rs g a k
+    go (stop rs) g k = of_each (StoreOpen kept r) rs g a k
 
 -- a place that was seen has an address of 32 bits
 saw_few : (kept : WordList) (r : AtHand) (τ : Tops) (released : ℕ) → IsSafe kept r τ released → (a : ℕ) → SawOpen kept r a
@@ -180,6 +184,7 @@ safe_unified kept r τ released h i j bs rs u tame = record {
     place = h.topped.place;
     climbs = now_climbs kept r τ released h i j bs rs u;
     slots = λ s b g. let k = h.topped.slots s b g in omega (arith, k);
+    near = h.topped.near;
     bound = λ a x e. (now_bound kept r τ released h i j bs rs u a x e).0.0;
     unfilled = λ k s l b. h.topped.unfilled k s l (omega (arith, b));
   };

@@ -58,7 +58,8 @@ reads_at (done bs rs) = rs
 reads_at (clash rs) = rs
 reads_at (stop rs) = rs
 
--- and all that it read was unbound, however it ends
+-- and each of the store's places that it read was unbound, however it ends
 abbrev pub UnificationReads : Type 0
 UnificationReads = Safely (λ kept r τ released. (i j : ℕ) (e : Ended)
-    → Unifies (seen kept r) r.binds r.reads ((term_word r i, term_word r j) ∷ []) e → (a : ℕ) → IsIn a (reads_at e) → SawOpen kept r a)
+    → Unifies (seen kept r) r.binds r.reads ((term_word r i, term_word r j) ∷ []) e → (a : ℕ) → IsIn a (reads_at e) → a < 4000000000
+    → SawOpen kept r a)

@@ -44,6 +44,8 @@ pub record IsTopped (kept : WordList) (r : AtHand) (τ : Tops) (released : ℕ) 
   pub climbs : (a b : Node) → Edge r.binds (seen kept r) a b → high (address b) ≤ max (high (address a)) released
   -- what slots hold
   pub slots : (i : ℕ) (b : Node) → Goes (seen kept r) (r.slots i) b → high (address b) ≤ max (τ i) released
+  -- which leads to addresses before the end of the pieces
+  pub near : (i : ℕ) (b : Node) → Goes (seen kept r) (r.slots i) b → address b < end_of 4000000000 r.pieces
   -- a bound place is released
   pub bound : (a x : ℕ) → word_at r.binds a ≡ Some x → high a ≤ released
   -- and the place of a variable that is not has no word yet
@@ -69,9 +71,9 @@ pub record IsSafe (kept : WordList) (r : AtHand) (τ : Tops) (released : ℕ) : 
   pub tame : Tame r.binds kept (own_words r.pieces) (end_of 4000000000 r.pieces)
   -- and come only so far
   pub topped : IsTopped kept r τ released
-  -- what was bound was unbound before, and so was what this try read
+  -- what was bound was unbound before, and so was what this try read of the store; a place of its own may be filled after it was read
   pub bound_open : (a x : ℕ) → word_at r.binds a ≡ Some x → SawOpen kept r a
-  pub read_open : (a : ℕ) → IsIn a r.reads → SawOpen kept r a
+  pub read_open : (a : ℕ) → IsIn a r.reads → a < 4000000000 → SawOpen kept r a
   -- and what the tries before read; it is listed once
   pub waits_open : (a : ℕ) → IsIn a r.waits → KeptOpen kept a
   pub waits_apart : AreDistinct r.waits
