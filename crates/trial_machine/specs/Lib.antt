@@ -5,3 +5,4 @@ pub mod BesideLaws
 pub mod Desks
 pub mod Constants
 pub mod Opened
+pub mod Keeping
