@@ -1,0 +1,14 @@
+pub mod Resting
+pub mod Going
+pub mod Beginning
+pub mod FinalPieces
+pub mod Putting
+pub mod Rebasing
+pub mod Agreeing
+pub mod Opening
+pub mod Unifying
+pub mod Spawning
+pub mod Slots
+pub mod Ending
+pub mod Leaving
+pub mod Testing

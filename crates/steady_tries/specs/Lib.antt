@@ -1,0 +1,6 @@
+pub mod Steady
+pub mod Begins
+pub mod Steps
+pub mod Opens
+pub mod Tests
+pub mod Ends
