@@ -170,6 +170,10 @@ fn clauses_at_the_limits(rt: HostRuntime) -> Result<(), Fail> {
         3 + 64 * 2
     );
     assert_eq!(rt;
+        size_with(rt.alloc(), b"p(f(a", b",a", 63, b")).")?,
+        3 + 65 + 1 + 1 + 65 + 1 + 1
+    );
+    assert_eq!(rt;
         size_with(rt.alloc(), b"p :- p", b",p", 255, b".")?,
         3 + 256
     );

@@ -48,7 +48,8 @@ obey_more f g h n s args at m (Some (PutWord i t)) = h _ _
 obey_more f g h n s args at m (Some (PutCons i l r)) = h _ _
 obey_more f g h n s args at m (Some (PutTuple i l r o)) = h _ _
 obey_more f g h n s args at m (Some (Unify l r)) =
-    given_more _ _ (λ x. unified_more f g h args at m x) _ _ (unify_more s n m.bound m.read ((as_term (m.slots l), as_term (m.slots r)) ∷ []))
+    given_more _ _ (λ x. unified_more f g h args at m x) _ _
+    (unify_more s n m.bound m.read ((as_term (m.slots l), as_term (m.slots r)) ∷ []))
 obey_more f g h n s args at m (Some (Jump to)) = h _ _
 obey_more f g h n s args at m (Some (Test k l r)) =
     given_more _ _ (λ x. tested_more f g h args (arguments args) at m x) _ _

@@ -98,7 +98,8 @@ module _ (s : Bindings) (code : List Op) (args : List (Term Variable)) (base : T
         → Same (From s code args at (At σ bs qs)) (Left bs qs ((a, b) ∷ ps))
     unify_does at l r σ bs qs a b ps has ea eb next =
         then_same _ _ _ (obeyed s code args at (At σ bs qs) (Unify l r) has)
-        (then_same _ _ _ (pointwise _ (λ n. given (unify n s bs qs ((a, b) ∷ [])) (λ e. unified (follow n s code args) args at (At σ bs qs) e))
+        (then_same _ _ _ (pointwise _
+        (λ n. given (unify n s bs qs ((a, b) ∷ [])) (λ e. unified (follow n s code args) args at (At σ bs qs) e))
         (λ n. λ i. given (unify n s bs qs ((ea i, eb i) ∷ [])) (λ e. unified (follow n s code args) args at (At σ bs qs) e)))
         (then_same _ _ _ (given_same (λ n. unify n s bs qs ((a, b) ∷ [])) (λ e n. unified (follow n s code args) args at (At σ bs qs) e)
         (λ e n. given (resume s ps e n) (λ d. W d n)) (λ n. unify_more s n bs qs ((a, b) ∷ []))

@@ -69,7 +69,8 @@ equals_so m s t u d g = go g.0 g.1
     waited (suc n) k rs f e = (waits_on ([] ++ rs), (k, ap (option_map (built_in [])) f), sym (same_Some _ _ e))
 
     ended : (n : ℕ) (o : Option Ended) → unify n s [] [] ((t, u) ∷ []) ≡ o
-        → given o (unified (follow n s unify_code (t ∷ u ∷ [])) (t ∷ u ∷ []) 1 (begun 3 (t ∷ u ∷ []))) ≡ Some d → IsDecided m s (unifies t u) d
+        → given o (unified (follow n s unify_code (t ∷ u ∷ [])) (t ∷ u ∷ []) 1 (begun 3 (t ∷ u ∷ []))) ≡ Some d
+        → IsDecided m s (unifies t u) d
     ended n None f e = cc
     ended n (Some (done bs rs)) f e = committed n n bs rs f e
     ended n (Some (clash rs)) f e = failed n n rs f e

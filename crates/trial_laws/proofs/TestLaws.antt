@@ -34,8 +34,8 @@ kept _ args t = arguments args
 -- what the code gives after a test
 after_test : (bound : Bindings) (ops : List Op) (args : List (Term Variable)) (at at' : ℕ) (t t' : Trying) (o : Op) (x : Tested)
     (d : Meaning) → slice_get ops at ≡ Some o → TestGives bound t o x
-    → ((n : ℕ) → tested (follow n bound ops args) args (kept o args t) at t x ≡ follow n bound ops args at' t') → Gives bound ops args at' t' d
-    → Gives bound ops args at t d
+    → ((n : ℕ) → tested (follow n bound ops args) args (kept o args t) at t x ≡ follow n bound ops args at' t')
+    → Gives bound ops args at' t' d → Gives bound ops args at t d
 after_test bound ops args at at' t t' (Test k l r) x d e is same g =
     step_given bound ops args at at' t t' (Test k l r)
     (λ n. test n (bound ++ t.bound) t.behind (test_of_kind k (built t.slots [] l) (built t.slots [] r)))
