@@ -1,11 +1,13 @@
 -- What is at hand with a desk, after a word or a piece was put.
-use Rattle.std.proofs.Common.{◌≡◌, ℕ, zero, suc, refl, length, take, Bool, true, List, [], ◌∷◌, ◌++◌, ap, ap₂, ◌∙◌}
+use Rattle.std.proofs.Common.{◌≡◌, ℕ, zero, suc, refl, length, take, Bool, true, false, List, [], ◌∷◌, ◌++◌, ap, ap₂, ◌∙◌}
 use Rattle.heap_words.specs.Trails.{WordList}
 use Rattle.std.specs.Prelude.{slice_get, unwrap_or}
 use Rattle.trial_laws.specs.Laws.{holding, places_for, begun, empty}
 use Rattle.trial_laws.specs.NewPieces.{with_piece, term_words}
+use Rattle.trial_laws.specs.Opening.{holding_all}
 use Rattle.trial_machine.specs.Held.{Held, held_term, held_terms, held_with, held_anew}
 use Rattle.trial_machine.specs.Desks.{at_hand, rested, put_away}
+use Rattle.trial_machine.specs.Opened.{held_all}
 
 -- a word in a slot
 pub word_put : (clause next : ℕ) (behind : Bool) (h h' : Held) (ps : List (List ℕ)) (i x : ℕ) (o : Bool) → h' ≡ held_with h i x o
@@ -63,3 +65,11 @@ pub try_ended : (clause next : ℕ) (behind behind' : Bool) (h h' : Held) (ps ps
     → at_hand clause next behind' h' ps' binds reads waits ≡ put_away args behind' (at_hand clause next behind h ps binds reads waits)
 try_ended clause next behind behind' h h' ps ps' args e f binds reads waits =
     ap₂ (λ (z : Held) (l : List (List ℕ)). at_hand clause next behind' z l binds reads waits) e f
+
+-- slots from i on that take words, one after another
+pub all_taken : (clause next : ℕ) (behind : Bool) (ps : List (List ℕ)) (binds : WordList) (reads waits : List ℕ) (h : Held) (i : ℕ)
+    (xs : List ℕ) → at_hand clause next behind (held_all h i xs) ps binds reads waits
+    ≡ holding_all (at_hand clause next behind h ps binds reads waits) i xs
+all_taken clause next behind ps binds reads waits h i [] = refl
+all_taken clause next behind ps binds reads waits h i (x ∷ xs) =
+    all_taken clause next behind ps binds reads waits (held_with h i x false) (suc i) xs

@@ -1,5 +1,6 @@
 -- The sizes of pieces: all words by them, and the pieces that are left where those behind are dropped.
-use Rattle.std.proofs.Common.{◌≡◌, ℕ, zero, suc, ◌+◌, ◌-◌, ◌<◌, ◌≤◌, List, [], ◌∷◌, ◌++◌, length, take, drop, refl, sym, ap, ap₂, ◌∙◌, arith}
+use Rattle.std.proofs.Common.{◌≡◌, ℕ, zero, suc, ◌+◌, ◌-◌, ◌<◌, ◌≤◌, List, [], ◌∷◌, ◌++◌, length, take, drop, refl, sym, ap, ap₂}
+use Rattle.std.proofs.Common.{◌∙◌, arith}
 use Rattle.std.specs.Prelude.{slice_index_or}
 use Rattle.std.specs.List.{concat}
 use Rattle.std.proofs.lemmas.List.{take-append-drop, take-take, drop-take, length-take-le, length-drop}
@@ -44,17 +45,6 @@ pub total_below : (i : ℕ) (ns : List ℕ) → total (take i ns) ≤ total ns
 total_below zero ns = omega arith
 total_below (suc i) [] = omega arith
 total_below (suc i) (n ∷ ns) = let h = total_below i ns in omega arith
-
-pub take_fewer : (i : ℕ) (ns : List ℕ) → length (take i ns) ≤ length ns
-take_fewer zero ns = omega arith
-take_fewer (suc i) [] = omega arith
-take_fewer (suc i) (n ∷ ns) = let h = take_fewer i ns in omega arith
-
-pub take_past : (i : ℕ) (ns : List ℕ) → length ns ≤ i → take i ns ≡ ns
-take_past zero [] h = refl
-take_past zero (n ∷ ns) h = absurd (omega arith)
-take_past (suc i) [] h = refl
-take_past (suc i) (n ∷ ns) h = ap (λ (l : List ℕ). n ∷ l) (take_past i ns (omega arith))
 
 -- the first pieces, of the words that they have
 cut_first : (k : ℕ) (ns ws : List ℕ) → cut (take (total (take k ns)) ws) (take k ns) ≡ take k (cut ws ns)

@@ -22,13 +22,15 @@ take_parts-requires-clause-known g c b lo hi =
 pub returns-in_ok-take_parts-in-Some-clause-loaded : goal.returns-in_ok-take_parts-in-Some-clause-loaded
 returns-in_ok-take_parts-in-Some-clause-loaded g c =
     loaded_twice g.met.W.Words.laws
-    (loaded_twice g.met.W.Words.laws c.in_ok-look.ensures.loaded c.in_ok-count-in-Some.ensures.loaded) c.in_ok-take_parts-in-Some.ensures.loaded
+    (loaded_twice g.met.W.Words.laws c.in_ok-look.ensures.loaded c.in_ok-count-in-Some.ensures.loaded)
+    c.in_ok-take_parts-in-Some.ensures.loaded
 
 pub returns-in_ok-take_parts-in-Some-clause-opened : goal.returns-in_ok-take_parts-in-Some-clause-opened
 returns-in_ok-take_parts-in-Some-clause-opened g c m i =
     let value =
     still_says g.met.W.Words.laws (λ m. Values c.args.trail.now.binds m false c.term.result c.in_ok-look.look)
-    (loaded_twice g.met.W.Words.laws c.in_ok-count-in-Some.ensures.loaded c.in_ok-take_parts-in-Some.ensures.loaded) c.in_ok-look.ensures.value m i in
+    (loaded_twice g.met.W.Words.laws c.in_ok-count-in-Some.ensures.loaded c.in_ok-take_parts-in-Some.ensures.loaded)
+    c.in_ok-look.ensures.value m i in
     let number =
     still_says g.met.W.Words.laws (λ m. m c.in-Some.at ≡ c.in_ok-count-in-Some.count) c.in_ok-take_parts-in-Some.ensures.loaded
     c.in_ok-count-in-Some.ensures.word m i in (
@@ -40,7 +42,8 @@ returns-in_ok-take_parts-in-Some-clause-opened g c m i =
             (sym c.is_count.ensures ∙ c.if-is_count.true);
         takes = c.in_ok-take_parts-in-Some.ensures.takes m i;
         number_seen = is_seen_on g.met.W.Words.laws c.in_ok-take_parts-in-Some.ensures.loaded c.in-Some.at
-            (said_seen g.met.W.Words.laws c.in-Some.at c.in_ok-count-in-Some.count c.in_ok-count-in-Some.ensures.loaded.holds c.in_ok-count-in-Some.ensures.word);
+            (said_seen g.met.W.Words.laws c.in-Some.at c.in_ok-count-in-Some.count c.in_ok-count-in-Some.ensures.loaded.holds
+            c.in_ok-count-in-Some.ensures.word);
         parts_seen = c.in_ok-take_parts-in-Some.ensures.seen;
       },
     )
@@ -49,7 +52,8 @@ pub returns-in_ok-take_parts-in-Some-clause-tame : goal.returns-in_ok-take_parts
 returns-in_ok-take_parts-in-Some-clause-tame g c =
     tame_later g.met.W.Words.laws
     (loaded_twice g.met.W.Words.laws
-    (loaded_twice g.met.W.Words.laws c.in_ok-look.ensures.loaded c.in_ok-count-in-Some.ensures.loaded) c.in_ok-take_parts-in-Some.ensures.loaded)
+    (loaded_twice g.met.W.Words.laws c.in_ok-look.ensures.loaded c.in_ok-count-in-Some.ensures.loaded)
+    c.in_ok-take_parts-in-Some.ensures.loaded)
     (c.take_parts.ensures.binds ∙ (c.word.ensures.binds ∙ c.deref.ensures.binds)) c.requires.tame
 
 pub returns-in_ok-take_parts-in-Some-clause-lead : goal.returns-in_ok-take_parts-in-Some-clause-lead
