@@ -3,16 +3,17 @@
 
     bench/store.py [--program PATH] [--rounds N] [--steps N]
 
-The program is `store_bench`. Its steps are measured N times (5 where N is left out), each time 1,000,000 rounds a seat or as many as
-`--steps` says. The fastest run of each step counts; the slowest stands beside it. The Busy answers are those of the fastest run, for each
-round that was done. A run prints its own times, by the clock of the system, from before its threads start to their end. The first line
-says on what machine it ran, and what else ran there.
+The program is `store_bench`. Its steps are measured N times (20 where N is left out), each time 1,000,000 rounds a seat or as many as
+`--steps` says. The fastest run of each step counts; the middle one stands beside it. The Busy answers are those of the fastest run, for
+each round that was done. A run prints its own times, by the clock of the system, from before its threads start to their end. The first
+line says on what machine it ran, and what else ran there.
 """
 import argparse
 import os
 import re
 import subprocess
 import sys
+from statistics import median
 
 from calls import ROOT, rounds_of
 
@@ -42,7 +43,7 @@ def figures(program, steps):
 def main():
     options = argparse.ArgumentParser(description="Measures the shared store.")
     options.add_argument("--program", default=PROGRAM)
-    options.add_argument("--rounds", type=int, default=5)
+    options.add_argument("--rounds", type=int, default=20)
     options.add_argument("--steps", type=int, default=ENTRIES)
     given = options.parse_args()
     if not os.access(given.program, os.X_OK):
@@ -50,11 +51,11 @@ def main():
     print(machine())
     print()
     runs = [figures(given.program, given.steps) for _ in range(given.rounds)]
-    print("| step | seats and pages | nanoseconds | slowest | Busy for each round |")
+    print("| step | seats and pages | nanoseconds | middle run | Busy for each round |")
     print("|---|---|---:|---:|---:|")
     for step, plan in runs[0]:
         times = [run[step, plan] for run in runs]
-        print(f"| {step} | {plan} | {min(times)[0]:,.1f} | {max(times)[0]:,.1f} | {min(times)[1]:,.2f} |")
+        print(f"| {step} | {plan} | {min(times)[0]:,.1f} | {median(time for time, _ in times):,.1f} | {min(times)[1]:,.2f} |")
     print()
     peaks = [rounds_of(given.program, ["entries", str(n)], 3, 0, f"{n} entries")[1] for n in (ENTRIES, 2 * ENTRIES)]
     each = (peaks[1] - peaks[0]) * 1024 / ENTRIES

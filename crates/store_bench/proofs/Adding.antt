@@ -128,7 +128,7 @@ module _ (g : Given) (v : View Count) (page t had : ℕ) (p : Counter g v page t
         above = p.above;
       }
 
--- what one of more workers wants is there
+-- what one of more workers takes is there
 pub one_fits : (k n r : ℕ) → k < n → k * r + r ≤ n * r
 one_fits k n r h = let a : (k + 1) * r ≤ n * r = mul-le-mul_right r (let z : k + 1 ≤ n = omega arith in z) in
     let b : (k + 1) * r ≡ k * r + r = omega arith in omega arith

@@ -1,5 +1,5 @@
 //! The steps of seats, measured.
-ghost use Rattle.std.specs.Prelude.{◌+◌, ◌<◌, ◌≤◌, IsTrue};
+ghost use Rattle.std.specs.Prelude.{◌+◌, ◌*◌, ◌<◌, ◌≤◌};
 
 use crate::stores::{Plan, hire_all, make_store};
 use crate::workers::{Step, Worker, work_all};
@@ -12,7 +12,7 @@ use std::time::Instant;
 pub(crate) const MOST_ROUNDS: u32 = 100_000_000;
 
 /// The pages of each store.
-const PAGES: u32 = 4;
+const PAGES: u32 = 64;
 
 /// The entries that are made in a page before it is given, where that is done seldom.
 const MANY: u32 = 1000;
@@ -61,8 +61,7 @@ fn print_plan<R: Clock + Print + Threads + Sync + AllocGlobal>(
     rounds: u32,
 ) -> Result<()>
     requires seats { (0 < plan.seats) × (plan.seats ≤ 4) }
-    requires pages { (0 < plan.spread) × (plan.spread ≤ 4) }
-    requires apart { IsTrue plan.apart → plan.seats + plan.spread ≤ 5 }
+    requires pages { (0 < plan.spread) × (plan.seats * plan.gap + plan.spread ≤ 64 + plan.gap) }
     requires rounds { rounds ≤ 100000000 }
 {
     let all = plan.seats * rounds;
@@ -86,7 +85,7 @@ fn print_plan<R: Clock + Print + Threads + Sync + AllocGlobal>(
     print_times(rt, what, name, nanos, rounds, busy)
 }
 
-/// Measures a step by one seat and by four, on one page and on four.
+/// Measures a step by one seat and by four, on one page and on four, which lie side by side or far apart.
 fn print_step<R: Clock + Print + Threads + Sync + AllocGlobal>(
     rt: &R,
     what: &str,
@@ -98,33 +97,46 @@ fn print_step<R: Clock + Print + Threads + Sync + AllocGlobal>(
     let one = Plan {
         seats: 1,
         spread: 1,
-        apart: false,
+        gap: 0,
     };
     print_plan(rt, what, "1 seat, 1 page", one, step, rounds)?;
     let round = Plan {
         seats: 1,
         spread: 4,
-        apart: false,
+        gap: 0,
     };
     print_plan(rt, what, "1 seat, 4 pages in turn", round, step, rounds)?;
     let crowd = Plan {
         seats: 4,
         spread: 1,
-        apart: false,
+        gap: 0,
     };
     print_plan(rt, what, "4 seats, 1 page", crowd, step, rounds)?;
     let ring = Plan {
         seats: 4,
         spread: 4,
-        apart: false,
+        gap: 0,
     };
     print_plan(rt, what, "4 seats, 4 pages in turn", ring, step, rounds)?;
     let apart = Plan {
         seats: 4,
         spread: 1,
-        apart: true,
+        gap: 1,
     };
-    print_plan(rt, what, "4 seats, a page each", apart, step, rounds)
+    print_plan(rt, what, "4 seats, a page each", apart, step, rounds)?;
+    let far = Plan {
+        seats: 4,
+        spread: 1,
+        gap: 16,
+    };
+    print_plan(
+        rt,
+        what,
+        "4 seats, a page each, far apart",
+        far,
+        step,
+        rounds,
+    )
 }
 
 /// Prints what each step takes.

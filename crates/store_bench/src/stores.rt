@@ -1,5 +1,5 @@
 //! Stores to be measured, and the seats on them.
-ghost use Rattle.std.specs.Prelude.{◌≡◌, ◌+◌, ◌*◌, ◌<◌, ◌≤◌, ◌^◌, length, vec_len, IfOk, IsTrue};
+ghost use Rattle.std.specs.Prelude.{◌≡◌, ◌+◌, ◌*◌, ◌<◌, ◌≤◌, ◌^◌, length, vec_len, IfOk};
 ghost use Rattle.std.specs.List.{All};
 ghost use Rattle.word_commit.specs.Openings.{MayOpen};
 ghost use Rattle.word_commit.specs.Shows.{IsSeatOf, view_of, spare_of, given_of};
@@ -17,12 +17,12 @@ use word_commit::{Quota, Seat, Shared, Store};
 
 const PAGE: usize = 1024;
 
-/// How many seats work, how many pages each goes round, and whether each begins at a page of its own.
+/// How many seats work, how many pages each goes round, and how many pages after the one before it each begins.
 #[derive(Clone, Copy, Debug, PartialEq, Eq)]
 pub(crate) struct Plan {
     pub seats: u32,
     pub spread: u32,
-    pub apart: bool,
+    pub gap: u32,
 }
 
 /// So many full pages, whose words are 0 but for the tops.
@@ -113,22 +113,21 @@ pub(crate) fn hire_all(
 ) -> Result<(Seat<Counts>, Vec<Worker>), NoMemory>
     requires seat { IsSeatOf store.now seat }
     requires rest { IsAtRest (view_of seat) }
-    requires pages { (0 < plan.spread) × (plan.spread ≤ (given_of store.now).pages) }
-    requires apart { IsTrue plan.apart → plan.seats + plan.spread ≤ (given_of store.now).pages + 1 }
+    requires pages { (0 < plan.spread) × (plan.seats * plan.gap + plan.spread ≤ (given_of store.now).pages + plan.gap) }
     requires rights { plan.seats < (view_of seat).purse.rights }
     requires moves { plan.seats * rounds ≤ (view_of seat).purse.moves }
     ensures seat { IfOk result (λ r. IsSeatOf store.now r.0) }
     ensures len { IfOk result (λ r. vec_len r.1 ≡ plan.seats) }
     ensures ready { IfOk result (λ r. All (λ w. IsReady store.now rounds w) r.1.items) }
 {
+    let _pages = store.pages();
     let Ok(mut workers) = Vec::with_capacity(alloc, plan.seats as usize) else {
         return Err(NoMemory);
     };
     let mut seat = seat;
     for place in 0..plan.seats {
-        let first = if plan.apart { place } else { 0 };
         let ring = Ring {
-            first,
+            first: place * plan.gap,
             spread: plan.spread,
         };
         let (rest, worker) = hire(store, alloc, seat, ring, rounds)?;
