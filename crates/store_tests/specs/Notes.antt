@@ -12,6 +12,7 @@ note_words = record { top = λ x. x; is_final = λ x. nat_le (2 ^ 40) x; refers 
 abbrev pub page_of : Note → ℕ
 page_of e = e.page * 1024 % 2 ^ 32
 
+-- a note reads its page's top, and writes there a word with its number and the page's next top
 abbrev pub notes : Meaning Note
 notes = record {
   words = note_words;

@@ -7,6 +7,7 @@ use Rattle.store_tests.specs.declared.purses.Transfer.{Transfer}
 abbrev pub purse_words : Wording
 purse_words = record { top = λ x. x; is_final = λ x. false; refers = λ l a. false }
 
+-- a transfer reads two purses and writes one coin less in the one and one more in the other
 abbrev pub purses : Meaning Transfer
 purses = record {
   words = purse_words;

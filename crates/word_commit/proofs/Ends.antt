@@ -1,5 +1,5 @@
 -- A store that is closed has one lawful history, and its words.
-use Rattle.std.proofs.Common.{◌≡◌, ℕ, zero, suc, ◌*◌, ◌<◌, ◌≤◌, List, [], ◌∷◌, ◌++◌, length, take, map}
+use Rattle.std.proofs.Common.{◌≡◌, ℕ, zero, suc, ◌+◌, ◌*◌, ◌<◌, ◌≤◌, List, [], ◌∷◌, ◌++◌, length, take, map}
 use Rattle.std.proofs.Common.{refl, sym, ap, ◌∙◌, subst, inl, inr, arith, Option, None, append-nil}
 use Rattle.std.specs.Prelude.{slice_index}
 use mathlib.Core.Option.{some, some-ne-none, some-injective}
@@ -14,8 +14,8 @@ use Rattle.word_commit.specs.declared.view.Given.{Given}
 use Rattle.word_commit.specs.declared.view.Nothing.{Nothing}
 use Rattle.word_commit.specs.Meanings.{Meaning, Among}
 use Rattle.word_commit.specs.Histories.{Inside, Closed, Lawful, world}
-use Rattle.word_commit.specs.Views.{all_rights, times}
-use Rattle.word_commit.specs.Kept.{words_of, Once, numbers_of, IsLogged, Kept}
+use Rattle.word_commit.specs.Views.{Charge, price, left, granted, all_rights, times}
+use Rattle.word_commit.specs.Kept.{words_of, total, Once, numbers_of, IsLogged, Kept}
 use Rattle.word_commit.specs.Seats.{pending_of, kept_of}
 use Rattle.word_commit.specs.Closings.{AreArranged, Closes}
 use Rattle.word_commit.proofs.Pages.{times_same}
@@ -94,6 +94,7 @@ module _ {E : Type 0} (m : Meaning E) (g : Given) where
     pub lawful : Lawful m 1 (words_of g) history
     pub entries : (x : Numbered E) → Among v.entries x → IsLogged history x
     pub once : (n : ℕ) → Once (length history) n (times n (numbers_of v.entries))
+    pub budget : (c : Charge) → total (λ e. price c (m.cost e)) history + left c v.purse ≤ granted c g
     pub ever : List (ℕ × ℕ)
     pub stood : (a : ℕ) → a < 1024 * g.pages → Inside m.words (world m 1 (words_of g) history) a
         → Among ever (a, slice_index (world m 1 (words_of g) history) a)
@@ -110,6 +111,7 @@ module _ {E : Type 0} (m : Meaning E) (g : Given) where
         lawful = h.lawful;
         entries = λ x y. (h.entries x y).0;
         once = h.whole all;
+        budget = h.budget;
         ever = h.ever;
         stood = subst (λ (w : List ℕ). (a : ℕ) → a < 1024 * g.pages → Inside m.words w a → Among h.ever (a, slice_index w a)) (sym h.folds)
             h.stood;
@@ -142,6 +144,7 @@ module _ {E : Type 0} (m : Meaning E) (g : Given) where
     history = e.history;
     lawful = e.lawful;
     entries = e.entries;
+    budget = e.budget;
     ever = e.ever;
     stood = e.stood;
     closed = e.closed;

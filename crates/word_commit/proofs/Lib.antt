@@ -15,3 +15,4 @@ pub mod Shares
 pub mod Arranging
 pub mod Ends
 pub mod Effects
+pub mod Risings

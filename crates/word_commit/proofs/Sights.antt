@@ -100,6 +100,7 @@ module _ {E : Type 0} (m : Meaning E) where
           = subst (λ (w : List ℕ). tops m.words g.pages w ≤ tops m.words g.pages (words_of g) + total
           (λ e. price Cells (m.cost e)) k.log) k.folds (tops_world 1 (words_of g) k.log g.pages k.wide k.lawful) in
           let c = k.budget Cells in let d = total_part (λ (v : View E). left Cells v.purse) s.views id v at in omega arith;
+      budget = λ c. let b = k.budget c in let d = total_part (λ (v : View E). left c v.purse) s.views id v at in omega arith;
       whole = λ all n. let t : total (λ (v : View E). times n (numbers_of v.entries)) s.views ≡ times n (numbers_of v.entries)
           = total_alone (λ (v : View E). times n (numbers_of v.entries)) s.views id v at
           (λ j u ne e. ap (λ es. times n (numbers_of es)) (others_spent m g s k id v at all j u ne e).0) in

@@ -1,5 +1,5 @@
 -- What is left of a store that is closed.
-use Rattle.std.specs.Prelude.{◌≡◌, ℕ, suc, ◌*◌, ◌<◌, List, map, length, slice_index}
+use Rattle.std.specs.Prelude.{◌≡◌, ℕ, suc, ◌+◌, ◌*◌, ◌<◌, ◌≤◌, List, map, length, slice_index}
 use mathlib.Core.Option.{some}
 use lib.ListN.{get_elem?}
 use Rattle.word_commit.specs.declared.view.View.{View}
@@ -7,7 +7,8 @@ use Rattle.word_commit.specs.declared.view.Numbered.{Numbered}
 use Rattle.word_commit.specs.declared.view.Given.{Given}
 use Rattle.word_commit.specs.Meanings.{Meaning, Among}
 use Rattle.word_commit.specs.Histories.{Inside, Closed, Lawful, world}
-use Rattle.word_commit.specs.Kept.{words_of, IsLogged}
+use Rattle.word_commit.specs.Views.{Charge, price, left, granted}
+use Rattle.word_commit.specs.Kept.{words_of, total, IsLogged}
 
 module _ {L : Type 0} where
   -- each entry stands at its number, counted from 1
@@ -24,6 +25,8 @@ module _ {E L : Type 0} (m : Meaning E) (logged : E → L) where
     -- of the seat's entries, each at its number, and of no others
     pub entries : (x : Numbered E) → Among v.entries x → IsLogged history x
     pub whole : length history ≡ length v.entries
+    -- they cost no more than was given, less what is left
+    pub budget : (c : Charge) → total (λ e. price c (m.cost e)) history + left c v.purse ≤ granted c g
     -- is the log
     pub log_is : map logged history ≡ log
     -- the words that stand or stood inside refer together to nothing but addresses inside

@@ -15,10 +15,11 @@ use Rattle.word_commit.specs.Views.{Charge, Moves, Extra, price, left, granted, 
 abbrev pub words_of : Given → List ℕ
 words_of g = g.words.value.items
 
--- where in the table the word of a page is, after the cells, and the clock, after the pages
+-- where in the table the word of a page is, after the cells
 abbrev pub page_at : Given → ℕ → ℕ
 page_at g p = 1024 * g.pages + p
 
+-- where the clock is, after the pages
 abbrev pub clock_at : Given → ℕ
 clock_at g = 1024 * g.pages + g.pages
 
@@ -32,6 +33,7 @@ abbrev pub Once : ℕ → ℕ → ℕ → Type 0
 Once clock n t = (1 ≤ n → n ≤ clock → t ≡ 1) × (clock < n → t ≡ 0) × (n ≡ 0 → t ≡ 0)
 
 module _ {E : Type 0} where
+  -- the numbers of entries, in the same order
   abbrev pub numbers_of : List (Numbered E) → List ℕ
   numbers_of es = map (λ x. x.number) es
 
@@ -84,6 +86,7 @@ module _ {E : Type 0} (m : Meaning E) where
     pub plain : Plain ever (a, x)
     pub top : IsBetween first w (a, x)
 
+  -- The rule.
   pub record Kept (g : Given) (s : State Nothing (View E)) : Type 0 where
     -- all entries in order of number, and the words after them
     pub log : List E
@@ -94,25 +97,31 @@ module _ {E : Type 0} (m : Meaning E) where
     -- the words that stand or stood inside
     pub ever : List (ℕ × ℕ)
     pub stood : (a : ℕ) → a < 1024 * g.pages → Inside m.words fold a → Among ever (a, slice_index fold a)
+    -- are at addresses inside still, and their tops are not above
     pub within : (x : ℕ × ℕ) → Among ever x → Inside m.words fold x.0 × IsBetween (words_of g) fold x
-    -- refer together to nothing but addresses inside
+    -- and refer together to nothing but addresses inside
     pub closed : Closed m.words ever fold
-    -- cells, the pages' words, the clock
+    -- the table has the cells, a word for each page, and the clock
     pub size : length s.words ≡ 1024 * g.pages + g.pages + 1
+    -- the words given are whole pages
     pub wide : length (words_of g) ≡ 1024 * g.pages
     -- the tops given lie above their pages' first words
     pub opens : (p : ℕ) → p < g.pages → 1024 * p < m.words.top (slice_index (words_of g) (1024 * p))
-    -- the clock counts the entries; of the numbers up to it each stands once in all views
+    -- the clock counts the entries
     pub clock : slice_index s.words (clock_at g) ≡ length log
+    -- of the numbers up to it each stands once in all views, and no other
     pub numbers : (n : ℕ) → Once (length log) n (total (λ v. times n (numbers_of v.entries)) s.views)
     -- a page's word counts its holders, and there are not two
     pub holders : (p : ℕ) → p < g.pages → (slice_index s.words (page_at g p) ≡ total (λ v. times p v.grip.held) s.views)
         × (slice_index s.words (page_at g p) ≤ 1)
-    -- what the entries cost, and what the seats have left, is what was given; so numbers fit 32 bits
+    -- what the entries cost, and what the seats have left, is what was given
     pub budget : (c : Charge) → total (λ e. price c (m.cost e)) log + total (λ v. left c v.purse) s.views ≡ granted c g
+    -- so numbers fit 32 bits
     pub few : granted Moves g + granted Extra g < 2 ^ 32
+    -- the rights of all views together are always the same
     pub rights : total (λ v. v.purse.rights) s.views ≡ all_rights
     -- the store has the history's word wherever that is inside, or one that lags
     pub store : (a : ℕ) → a < 1024 * g.pages → Inside m.words fold a
         → (slice_index s.words a ≡ slice_index fold a) ⊎ Lags (words_of g) ever fold s.views a (slice_index s.words a)
+    -- what each view says is so
     pub views : (id : ℕ) (v : View E) → get_elem? s.views id ≡ some v → IsTrueOf g s.words log ever fold v

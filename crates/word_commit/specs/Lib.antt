@@ -10,3 +10,4 @@ pub mod Conditions
 pub mod Closings
 pub mod ClosedWords
 pub mod Shows
+pub mod Rising

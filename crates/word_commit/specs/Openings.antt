@@ -8,6 +8,7 @@ module _ (m : Wording) where
   abbrev pub StandsInside : List ℕ → ℕ × ℕ → Type 0
   StandsInside w x = (x.0 < length w) × Inside m w x.0 × (slice_index w x.0 ≡ x.1)
 
+  -- Words with which a store may be made.
   pub record MayOpen (w : List ℕ) : Type 0 where
     -- whole pages, of at most 4,000,000,000 words together
     pub whole : length w % 1024 ≡ 0

@@ -5,8 +5,8 @@ use Rattle.word_commit.specs.declared.view.Numbered.{Numbered}
 use Rattle.word_commit.specs.declared.view.Given.{Given}
 use Rattle.word_commit.specs.Meanings.{Meaning, Among}
 use Rattle.word_commit.specs.Histories.{tops, Inside, Closed, Lawful, world}
-use Rattle.word_commit.specs.Views.{all_rights, times, shown as words_shown, shown_tops}
-use Rattle.word_commit.specs.Kept.{words_of, Once, numbers_of, IsLogged, IsShown}
+use Rattle.word_commit.specs.Views.{Charge, price, left, granted, all_rights, times, shown as words_shown, shown_tops}
+use Rattle.word_commit.specs.Kept.{words_of, total, Once, numbers_of, IsLogged, IsShown}
 
 module _ {E : Type 0} (m : Meaning E) (g : Given) where
   -- All that a seat saw is of one lawful history.
@@ -29,6 +29,8 @@ module _ {E : Type 0} (m : Meaning E) (g : Given) where
     -- the tops last shown are above those given by no more cells than are spent at most
     pub cells : shown_tops m.words g.pages (words_of g) (words_shown v.looks) + v.purse.cells ≤ tops m.words g.pages (words_of g) +
         g.quota.cells
+    -- what the entries cost and what this seat has left is together no more than was given
+    pub budget : (c : Charge) → total (λ e. price c (m.cost e)) log + left c v.purse ≤ granted c g
     -- a seat that is the only one left has all entries
     pub whole : v.purse.rights ≡ all_rights → (n : ℕ) → Once (length log) n (times n (numbers_of v.entries))
 
