@@ -10,7 +10,7 @@ use Rattle.ro_unify.specs.Value.{Values, IsOpen}
 use Rattle.ro_unify.specs.Occurs.{Each}
 use Rattle.ro_unify.specs.Alike.{alike}
 use Rattle.ro_unify.specs.Unify.{look_reads}
-use Rattle.ro_unify.proofs.Chains.{values_open, value_no_ref}
+use Rattle.ro_unify.proofs.Chains.{value_no_ref}
 use Rattle.fcp_model.specs.Places.{Variable, is_same}
 use Rattle.fcp_model.specs.Terms.{Term, Bindings}
 use Rattle.fcp_model.specs.Value.{writable, read_only, solid, value}
@@ -28,14 +28,11 @@ use Rattle.guard_tests.specs.declared.equality.Tested.{Tested}
 use Rattle.guard_tests.specs.declared.equality.Tested.TheVariants.{Not, Wait}
 use Rattle.guard_tests.specs.Equality.{Comparison, parts, differ, waits, by_parts, compared, Compares, Equals, all, on, unlike, stopped}
 use Rattle.guard_tests.specs.Guards.{ArePlaces, test_answer, tested_reads}
+use Rattle.guard_tests.proofs.OpenReads.{Each-append, look_open}
 
 -- what is so of each number that follows one from k on is so of each number above k
 one_more : (P : ℕ → Type 0) (k n : ℕ) → suc k ≤ n → ((i : ℕ) → k ≤ i → P (suc i)) → P n
 one_more P k n l f = let e : suc (n - 1) ≡ n = omega arith in subst P e (f (n - 1) (omega arith))
-
-pub Each-append : {A : Type 0} (P : A → Type 0) (xs ys : List A) → Each P xs → Each P ys → Each P (xs ++ ys)
-Each-append P [] ys h i = i
-Each-append P (x ∷ xs) ys h i = (h.0, Each-append P xs ys h.1 i)
 
 module _ (p : Naming) (m : Memory) where
   pub places_with : (xs ys : List ℕ) (vs ws : List Variable) → ArePlaces p m xs vs → ArePlaces p m ys ws
@@ -56,11 +53,6 @@ module _ (p : Naming) (m : Memory) where
   look_places (ReadOnly a) (solid t) i = absurd i
   look_places (Solid x) (writable v) i = absurd i
   look_places (Solid x) (read_only v) i = absurd i
-
-  pub look_open : (bs : WordList) (w : ℕ) (l : Look) → Values bs m false w l → Each (IsOpen bs m) (look_reads l)
-  look_open bs w (Writable a) v = (values_open bs m false w (Writable a) a v refl, tt)
-  look_open bs w (ReadOnly a) v = (values_open bs m false w (ReadOnly a) a v refl, tt)
-  look_open bs w (Solid x) v = tt
 
   -- a comparison of words as the step of the terms
   data StepIs : Comparison → Step → Type 0 where
@@ -162,8 +154,8 @@ module _ (p : Naming) (m : Memory) where
             read = k.read ∙ append_assoc rs (look_reads k.left) (look_reads k.right);
             places = places_with (look_reads k.left) (look_reads k.right) (looks.look_reads v.look) (looks.look_reads u.look)
                 (look_places k.left v.look v.is) (look_places k.right u.look u.is);
-            unbound = Each-append (IsOpen bs m) (look_reads k.left) (look_reads k.right) (look_open bs w.0 k.left k.left_is)
-                (look_open bs w.1 k.right k.right_is);
+            unbound = Each-append (IsOpen bs m) (look_reads k.left) (look_reads k.right) (look_open bs m w.0 k.left k.left_is)
+                (look_open bs m w.1 k.right k.right_is);
           }
 
       -- the terms' comparison of pairs, after the reads vs

@@ -1,3 +1,4 @@
+pub mod OpenReads
 pub mod Evaluating
 pub mod Comparing
 pub mod Sides

@@ -36,7 +36,8 @@ use Rattle.guard_tests.specs.Equality.{Equals}
 use Rattle.guard_tests.specs.Forms.{operand_of, truth, look_is, IsOfKind, opposite, order_with, OrdersAfter, Tests}
 use Rattle.guard_tests.specs.Guards.{kind_of, test_answer, tested_reads, evaluated_reads, Expresses, IsTestOf, Reads, EvaluatesAs, TestsAs}
 use Rattle.guard_tests.proofs.EvaluatedTerms.{evaluated_so}
-use Rattle.guard_tests.proofs.EqualTerms.{Each-append, places_with, look_places, look_open, equal_so}
+use Rattle.guard_tests.proofs.OpenReads.{Each-append, look_open}
+use Rattle.guard_tests.proofs.EqualTerms.{places_with, look_places, equal_so}
 use Rattle.guard_tests.proofs.KindTerms.{word_kind, open_answer, open_reads, decided_answer, decided_reads}
 
 opposed_answer : (e : tests.Tested) (t : Tested) → test_answer e ≡ opposite t → test_answer (opposed e) ≡ t
@@ -87,7 +88,7 @@ module _ (p : Naming) (m : Memory) (names : Names p m) (bs : WordList) (s : Bind
               more = look_reads i.look;
               read = i.read;
               places = look_places p m i.look v.look v.is;
-              unbound = look_open p m bs w i.look i.value;
+              unbound = look_open bs m w i.look i.value;
             });
       }
     where

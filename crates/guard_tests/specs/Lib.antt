@@ -3,3 +3,4 @@ pub mod Evaluation
 pub mod Equality
 pub mod Forms
 pub mod Guards
+pub mod Opened

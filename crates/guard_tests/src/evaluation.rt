@@ -7,6 +7,7 @@ ghost use Rattle.ro_unify.specs.Value.{look_word, Values};
 ghost use Rattle.ro_unify.specs.Walks.{Tame};
 ghost use Rattle.guard_tests.specs.Evaluation.{OperandLeads, Gives, Combines, Takes, last_of, Reckons};
 ghost use Rattle.guard_tests.specs.Guards.{AreEvaluated};
+ghost use Rattle.guard_tests.specs.Opened.{ReadsOpen};
 
 use crate::arithmetic::compute;
 use crate::number::{Evaluated, number};
@@ -164,8 +165,8 @@ pub(crate) fn reckon<W: Words>(
 }
 
 /// Evaluates an expression in postfix order on words, as the definitions evaluate it on the terms for which they stand, under the
-/// private bindings of the trail. A place that was read unbound goes last on its list. Steps that are no expression have some
-/// answer. After `NoMemory` the trail is only good for `clear`.
+/// private bindings of the trail. A place that was read unbound goes last on its list, and its word was seen. Steps that are no
+/// expression have some answer. After `NoMemory` the trail is only good for `clear`.
 pub fn evaluate<W: Words>(
     lists: &mut TestLists,
     trail: &mut Trail,
@@ -183,6 +184,8 @@ pub fn evaluate<W: Words>(
     ensures binds { trail.new.binds ≡ trail.old.binds }
     ensures evaluated { IfOk result (λ e. Says (W.own words.new) trail.new.kept
         (λ m. AreEvaluated m trail.old.binds trail.old.reads.items steps.now e trail.new.reads.items)) }
+    ensures opened { OnOk result (ReadsOpen trail.old.binds trail.new.kept (W.own words.new) trail.old.reads.items
+        trail.new.reads.items) }
 {
     let end = reckon(&mut lists.operands, trail, words, steps)?;
     Ok(end)

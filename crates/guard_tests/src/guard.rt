@@ -6,6 +6,7 @@ ghost use Rattle.ro_unify.specs.Walks.{Tame};
 ghost use Rattle.guard_tests.specs.Evaluation.{OperandLeads};
 ghost use Rattle.guard_tests.specs.Forms.{form_of, IsOfKind, order_with, OrdersAfter, Orders, Tests};
 ghost use Rattle.guard_tests.specs.Guards.{AreTested};
+ghost use Rattle.guard_tests.specs.Opened.{ReadsOpen};
 
 use crate::arithmetic::is_ordered;
 use crate::equality::{Tested, is_equal};
@@ -159,8 +160,8 @@ fn make_test<W: Words>(
 }
 
 /// Makes a test on words, as the definitions make it on the terms for which they stand, under the private bindings of the trail.
-/// Each place that was read unbound goes last on its list. Sides that stand for no test of this kind have some answer. After
-/// `NoMemory` the trail is only good for `clear`.
+/// Each place that was read unbound goes last on its list, and its word was seen. Sides that stand for no test of this kind have
+/// some answer. After `NoMemory` the trail is only good for `clear`.
 pub fn test<W: Words>(
     lists: &mut TestLists,
     trail: &mut Trail,
@@ -181,6 +182,8 @@ pub fn test<W: Words>(
     ensures binds { trail.new.binds ≡ trail.old.binds }
     ensures tested { IfOk result (λ t. Says (W.own words.new) trail.new.kept
         (λ m. AreTested m trail.old.binds trail.old.reads.items kind left.now right.now t trail.new.reads.items)) }
+    ensures opened { OnOk result (ReadsOpen trail.old.binds trail.new.kept (W.own words.new) trail.old.reads.items
+        trail.new.reads.items) }
 {
     let form = asked(kind);
     let answer = make_test(lists, trail, words, form, left, right)?;

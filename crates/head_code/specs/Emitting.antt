@@ -6,10 +6,10 @@ use Rattle.machine_code.specs.declared.instr.Instr.{Instr}
 use Rattle.machine_code.specs.declared.instr.Instr.TheVariants as instr
 use Rattle.machine_code.specs.Each.{Each}
 use Rattle.machine_code.specs.Instructions.{Op}
-use Rattle.machine_code.specs.Reading.{op_of, Fits}
+use Rattle.machine_code.specs.Reading.{op_of, HasWord, Fits}
 use Rattle.head_code.specs.declared.emitter.Emitter.{Emitter}
 
--- what all instructions name is there
+-- what all instructions name is there, and what they build has a word
 abbrev pub IsFine : Emitter → Type 0
 IsFine e = Each (Fits e.smalls.keys e.steps.items) e.instrs.items
 
@@ -27,10 +27,11 @@ pub record Emits (old new : Emitter) (code : List Op) : Type 0 where
   pub fine : IsFine old → IsFine new
   pub ops : IsFine old → ops_of new ≡ ops_of old ++ code
 
--- an instruction that names no constant and no steps
+-- an instruction that names no constant and no steps; what it builds has a word
 abbrev pub IsPlain : Instr → Type 0
 IsPlain (instr.PutWord slot word) = ⊥
 IsPlain (instr.Test kind left left_len right right_len) = ⊥
+IsPlain (instr.PutTuple slot first parts op) = HasWord parts op
 IsPlain _ = Unit {0}
 
 -- what such an instruction says

@@ -1,5 +1,5 @@
 //! Code that puts terms into slots, parts before wholes.
-ghost use Rattle.std.specs.Prelude.{◌≡◌, ◌+◌, ◌≤◌, [], ◌∷◌, Some, length, IfOk, OnOk};
+ghost use Rattle.std.specs.Prelude.{◌≡◌, ◌+◌, ◌<◌, ◌≤◌, [], ◌∷◌, Some, length, IfOk, OnOk};
 ghost use Rattle.heap_words.specs.Cells.{IsCell};
 ghost use Rattle.fcp_model.specs.Terms.{number, tuple};
 ghost use Rattle.machine_code.specs.Instructions.{PutWord, PutVar};
@@ -14,12 +14,18 @@ use heap_words::Cell;
 use machine_code::Instr;
 use std::alloc::Global;
 
-/// How many parts a tuple has; there is no memory for one of more than 255.
+/// How many parts a tuple has; there is no memory for one of more than 65, which no term that was read has.
 pub fn part_count(terms: &[Term]) -> Result<u8, NoMemory>
-    ensures { IfOk result (λ n. n ≡ length terms.now) }
+    ensures count { IfOk result (λ n. n ≡ length terms.now) }
+    ensures few { IfOk result (λ n. n < 66) }
 {
     match u8::try_from(terms.len()) {
-        Ok(count) => Ok(count),
+        Ok(count) => {
+            if count > 65 {
+                return Err(NoMemory);
+            }
+            Ok(count)
+        }
         Err(_) => Err(NoMemory),
     }
 }

@@ -49,9 +49,9 @@ module _ (s : Bindings) (code : List Op) (args : List (Term Variable)) (base : T
   pub record IsTry : Type 0 where
     pub grows : (e : Ended) → Grows (W e)
     pub clashed : (σ : Slots) (bs : Bindings) (qs rs : List Variable)
-        → Same (λ n. leave (follow n s code args) (At σ bs qs) base.behind rs) (W (clash rs))
+        → Same (λ n. leave (follow n s code args) args (At σ bs qs) base.behind rs) (W (clash rs))
     pub waited : (σ : Slots) (bs : Bindings) (qs rs : List Variable)
-        → Same (λ n. leave (follow n s code args) (At σ bs qs) false rs) (W (wait rs))
+        → Same (λ n. leave (follow n s code args) args (At σ bs qs) false rs) (W (wait rs))
 
   module _ (try : IsTry) where
     left_more : (bs : Bindings) (qs : List Variable) (ps : List Pair) → Grows (Left bs qs ps)
@@ -98,18 +98,18 @@ module _ (s : Bindings) (code : List Op) (args : List (Term Variable)) (base : T
         → Same (From s code args at (At σ bs qs)) (Left bs qs ((a, b) ∷ ps))
     unify_does at l r σ bs qs a b ps has ea eb next =
         then_same _ _ _ (obeyed s code args at (At σ bs qs) (Unify l r) has)
-        (then_same _ _ _ (pointwise _ (λ n. given (unify n s bs qs ((a, b) ∷ [])) (λ e. unified (follow n s code args) at (At σ bs qs) e))
-        (λ n. λ i. given (unify n s bs qs ((ea i, eb i) ∷ [])) (λ e. unified (follow n s code args) at (At σ bs qs) e)))
-        (then_same _ _ _ (given_same (λ n. unify n s bs qs ((a, b) ∷ [])) (λ e n. unified (follow n s code args) at (At σ bs qs) e)
+        (then_same _ _ _ (pointwise _ (λ n. given (unify n s bs qs ((a, b) ∷ [])) (λ e. unified (follow n s code args) args at (At σ bs qs) e))
+        (λ n. λ i. given (unify n s bs qs ((ea i, eb i) ∷ [])) (λ e. unified (follow n s code args) args at (At σ bs qs) e)))
+        (then_same _ _ _ (given_same (λ n. unify n s bs qs ((a, b) ∷ [])) (λ e n. unified (follow n s code args) args at (At σ bs qs) e)
         (λ e n. given (resume s ps e n) (λ d. W d n)) (λ n. unify_more s n bs qs ((a, b) ∷ []))
-        (λ e n. unified_more (follow n s code args) (follow (suc n) s code args) (λ at' m. follow_more s code args at' m n) at
+        (λ e n. unified_more (follow n s code args) (follow (suc n) s code args) (λ at' m. follow_more s code args at' m n) args at
         (At σ bs qs) e) (λ e. given_grows (resume s ps e) W (resume_more s ps e) try.grows) (λ e c. each e))
         (then_same _ _ _ (pointwise _ _ (λ n. sym (given_given (unify n s bs qs ((a, b) ∷ [])) (λ e. resume s ps e n) (λ d. W d n))))
         (given_left (λ n. given (unify n s bs qs ((a, b) ∷ [])) (λ e. resume s ps e n)) (λ n. unify n s bs qs ((a, b) ∷ ps)) W
         (given_grows (λ n. unify n s bs qs ((a, b) ∷ [])) (resume s ps) (λ n. unify_more s n bs qs ((a, b) ∷ [])) (resume_more s ps))
         (λ n. unify_more s n bs qs ((a, b) ∷ ps)) try.grows (turned _ _ (appended s ((a, b) ∷ []) ps bs qs))))))
       where
-        each : (e : Ended) → Same (λ n. unified (follow n s code args) at (At σ bs qs) e) (λ n. given (resume s ps e n) (λ d. W d n))
+        each : (e : Ended) → Same (λ n. unified (follow n s code args) args at (At σ bs qs) e) (λ n. given (resume s ps e n) (λ d. W d n))
         each (done bs' rs) = next bs' rs
         each (clash rs) = try.clashed σ bs qs rs
         each (wait rs) = try.waited σ bs qs rs

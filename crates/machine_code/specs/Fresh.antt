@@ -31,7 +31,7 @@ abbrev pub Go : Type 1
 Go = ℕ → Tops → ℕ → Type 0
 
 -- What an instruction at a position asks, and with which tops the ways from it go on. A clause begins with nothing put and nothing
--- released; where it is left for the next one, anything may stand in the slots.
+-- released; where it is left for the next one, nothing is said of tops. After a test that holds nothing is put any more.
 abbrev pub FreshAt : Go → ℕ → Tops → ℕ → Option Op → Type 0
 FreshAt go at τ r None = Unit {0}
 FreshAt go at τ r (Some (Try k next)) = go (suc at) no_tops 0 × ((υ : Tops) (q : ℕ) → go next υ q)
@@ -44,7 +44,7 @@ FreshAt go at τ r (Some (PutCons i left right)) = go (suc at) (topped τ i (max
 FreshAt go at τ r (Some (PutTuple i first parts o)) = go (suc at) (topped τ i (top_of τ first parts)) r
 FreshAt go at τ r (Some (Unify left right)) = go (suc at) τ (max r (max (τ left) (τ right)))
 FreshAt go at τ r (Some (Jump to)) = go to τ r
-FreshAt go at τ r (Some (Test k left right)) = go (suc at) τ r
+FreshAt go at τ r (Some (Test k left right)) = go (suc at) no_tops r
 FreshAt go at τ r (Some Otherwise) = go (suc at) τ r
 FreshAt go at τ r (Some (Spawn p first parts)) = go (suc at) τ r
 FreshAt go at τ r (Some Commit) = Unit {0}

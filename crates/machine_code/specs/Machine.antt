@@ -43,9 +43,10 @@ Go = ℕ → Trying → Option Meaning
 abbrev pub ending : Trying → Meaning
 ending m = record { decision = if m.behind then decides_fail m.earlier else waits_on m.earlier; children = [] }
 
--- the try ends without success, with its reads; `behind` says that all tries so far failed
-abbrev pub leave : Go → Trying → Bool → List Variable → Option Meaning
-leave go m behind rs = go m.next (record m { behind = behind; earlier = m.earlier ++ rs; read = [] })
+-- The try ends without success, with its reads; `behind` says that all tries so far failed. What it held, bound and made goes.
+abbrev pub leave : Go → List (Term Variable) → Trying → Bool → List Variable → Option Meaning
+leave go args m behind rs =
+    go m.next (record m { slots = arguments args; bound = []; read = []; children = []; behind = behind; earlier = m.earlier ++ rs })
 
 -- what is done with an answer, where there is one
 abbrev pub given : {A B : Type 0} → Option A → (A → Option B) → Option B
@@ -53,16 +54,16 @@ given None f = None
 given (Some x) f = f x
 
 -- after a unification
-abbrev pub unified : Go → ℕ → Trying → Ended → Option Meaning
-unified go at m (done bs rs) = go (suc at) (record m { bound = bs; read = rs })
-unified go at m (clash rs) = leave go m m.behind rs
-unified go at m (wait rs) = leave go m false rs
+abbrev pub unified : Go → List (Term Variable) → ℕ → Trying → Ended → Option Meaning
+unified go args at m (done bs rs) = go (suc at) (record m { bound = bs; read = rs })
+unified go args at m (clash rs) = leave go args m m.behind rs
+unified go args at m (wait rs) = leave go args m false rs
 
--- after a test
-abbrev pub tested : Go → ℕ → Trying → Tested → Option Meaning
-tested go at m (holds rs) = go (suc at) (record m { read = m.read ++ rs })
-tested go at m (fails rs) = leave go m m.behind (m.read ++ rs)
-tested go at m (pauses rs) = leave go m false (m.read ++ rs)
+-- after a test; one that holds goes on with these slots
+abbrev pub tested : Go → List (Term Variable) → Slots → ℕ → Trying → Tested → Option Meaning
+tested go args σ at m (holds rs) = go (suc at) (record m { slots = σ; read = m.read ++ rs })
+tested go args σ at m (fails rs) = leave go args m m.behind (m.read ++ rs)
+tested go args σ at m (pauses rs) = leave go args m false (m.read ++ rs)
 
 -- the parts of a pair
 abbrev pub pair_in : Look → Option (Term Variable × Term Variable)
@@ -130,7 +131,8 @@ child p xs =
     if nat_eq p TRUE_PROCEDURE then true' else
     (if nat_eq p UNIFY_PROCEDURE then pair_goal xs else (if nat_eq p ASSIGN_PROCEDURE then assign_goal xs else user p (map as_term xs)))
 
--- One instruction at a position, or None where n steps are too few. `args` are the arguments of the goal.
+-- One instruction at a position, or None where n steps are too few. `args` are the arguments of the goal. After a test that holds the
+-- slots hold them again, so that nothing which was put for the test is at hand any more.
 abbrev pub obey : Go → ℕ → Bindings → List (Term Variable) → ℕ → Trying → Option Op → Option Meaning
 obey go n s args at m None = Some (ending m)
 obey go n s args at m (Some (Try k next)) =
@@ -148,11 +150,12 @@ obey go n s args at m (Some (PutCons i left right)) =
     go (suc at) (put_in m i (leaf (cons (as_term (m.slots left)) (as_term (m.slots right)))))
 obey go n s args at m (Some (PutTuple i first parts o)) = go (suc at) (put_in m i (tupled m.slots first parts o))
 obey go n s args at m (Some (Unify left right)) =
-    given (unify n s m.bound m.read ((as_term (m.slots left), as_term (m.slots right)) ∷ [])) (unified go at m)
+    given (unify n s m.bound m.read ((as_term (m.slots left), as_term (m.slots right)) ∷ [])) (unified go args at m)
 obey go n s args at m (Some (Jump to)) = go to m
 obey go n s args at m (Some (Test k left right)) =
-    given (test n (s ++ m.bound) m.behind (test_of_kind k (built m.slots [] left) (built m.slots [] right))) (tested go at m)
-obey go n s args at m (Some Otherwise) = given (test n (s ++ m.bound) m.behind tests.otherwise) (tested go at m)
+    given (test n (s ++ m.bound) m.behind (test_of_kind k (built m.slots [] left) (built m.slots [] right)))
+    (tested go args (arguments args) at m)
+obey go n s args at m (Some Otherwise) = given (test n (s ++ m.bound) m.behind tests.otherwise) (tested go args m.slots at m)
 obey go n s args at m (Some (Spawn p first parts)) =
     go (suc at) (record m { children = m.children ++ child p (slots_from m.slots first parts) ∷ [] })
 obey go n s args at m (Some Commit) = Some (record { decision = commits m.clause m.bound (m.earlier ++ m.read); children = m.children })

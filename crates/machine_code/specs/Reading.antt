@@ -1,10 +1,11 @@
 -- What an instruction of the machine says, with the tables of constants and steps that it names.
-use Rattle.std.specs.Prelude.{ℕ, ◌+◌, ◌<◌, ◌≤◌, ℤ, pos, negsuc, ◌-ℤ◌, ◌+ℤ◌, ◌*ℤ◌, List, length, map, take, drop, Option, Some, None, if◌then◌else◌, nat_lt, slice_get}
+use Rattle.std.specs.Prelude.{◌≡◌, ℕ, ◌+◌, ◌<◌, ◌≤◌, ℤ, pos, negsuc, ◌-ℤ◌, ◌+ℤ◌, ◌*ℤ◌, List, length, map, take, drop, Option, Some, None, if◌then◌else◌, nat_lt, slice_get}
 use Rattle.heap_words.specs.declared.cell.Cell.{Cell}
 use Rattle.heap_words.specs.declared.cell.Cell.TheVariants as cells
 use Rattle.heap_words.specs.declared.steps.ExprStep.{ExprStep}
 use Rattle.heap_words.specs.declared.steps.ExprStep.TheVariants as table
 use Rattle.heap_words.specs.Cells.{decoded}
+use Rattle.fcp_model.specs.declared.term.ArithOp.{ArithOp}
 use Rattle.fcp_model.specs.Places.{Variable}
 use Rattle.fcp_model.specs.Terms.{Term, number, string, nil}
 use Rattle.machine_code.specs.declared.instr.Instr.{Instr}
@@ -69,8 +70,14 @@ abbrev pub WordFits : List ℕ → Option Cell → Type 0
 WordFits smalls (Some (cells.Wide at high)) = at < length smalls
 WordFits smalls _ = Unit {0}
 
--- what an instruction names is there
+-- what is built has a word: a tuple of fewer than 66 parts, or an operation with its two operands
+abbrev pub HasWord : ℕ → Option ArithOp → Type 0
+HasWord parts None = parts < 66
+HasWord parts (Some o) = parts ≡ 2
+
+-- what an instruction names is there, and what it builds has a word
 abbrev pub Fits : List ℕ → List ExprStep → Instr → Type 0
 Fits smalls steps (instr.PutWord slot word) = WordFits smalls (decoded word)
 Fits smalls steps (instr.Test kind left left_len right right_len) = (left + left_len ≤ length steps) × (right + right_len ≤ length steps)
+Fits smalls steps (instr.PutTuple slot first parts op) = HasWord parts op
 Fits smalls steps _ = Unit {0}

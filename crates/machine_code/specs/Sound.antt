@@ -76,8 +76,9 @@ StepsBelow n (table.Push slot) = slot < n
 StepsBelow n (table.Apply op) = Unit {0}
 
 -- What is so of all code: each position that an instruction names lies after its own, so that a trial runs each of them at
--- most once; the elements of the lists that it names are there; the steps of a test are those of its kind; each slot that it
--- names is below the number of slots; and from each procedure's first instruction on, first occurrences are fresh.
+-- most once; the elements of the lists that it names are there, a tuple that it builds has fewer than 66 parts, and an operation has
+-- two operands; the steps of a test are those of its kind; each slot that it names is below the number of slots; and from each
+-- procedure's first instruction on, first occurrences are fresh.
 pub record IsSound (t : Tables) : Type 0 where
   pub behind : AllLeadBehind 0 (compiled t).ops
   pub there : Each (Fits t.smalls t.steps) t.instrs

@@ -69,7 +69,7 @@ equals_so m s t u d g = go g.0 g.1
     waited (suc n) k rs f e = (waits_on ([] ++ rs), (k, ap (option_map (built_in [])) f), sym (same_Some _ _ e))
 
     ended : (n : ℕ) (o : Option Ended) → unify n s [] [] ((t, u) ∷ []) ≡ o
-        → given o (unified (follow n s unify_code (t ∷ u ∷ [])) 1 (begun 3 (t ∷ u ∷ []))) ≡ Some d → IsDecided m s (unifies t u) d
+        → given o (unified (follow n s unify_code (t ∷ u ∷ [])) (t ∷ u ∷ []) 1 (begun 3 (t ∷ u ∷ []))) ≡ Some d → IsDecided m s (unifies t u) d
     ended n None f e = cc
     ended n (Some (done bs rs)) f e = committed n n bs rs f e
     ended n (Some (clash rs)) f e = failed n n rs f e
@@ -102,20 +102,20 @@ assign_so m s t e z value d g = go g.0 g.1
         (commits 0 bs ([] ++ rs), assigned m s t e z value.0 value.1 k (done bs rs) f, sym (same_Some _ _ h))
 
     failed : (n k : ℕ) (rs : List Variable) → unify k s [] [] ((t, number z) ∷ []) ≡ Some (clash rs)
-        → follow n s (assign_code z) (t ∷ []) 4 (record (put_in (begun 4 (t ∷ [])) 1 (leaf (number z))) { earlier = [] ++ rs }) ≡ Some d
+        → follow n s (assign_code z) (t ∷ []) 4 (record (begun 4 (t ∷ [])) { earlier = [] ++ rs }) ≡ Some d
         → IsDecided m s (assigns t e) d
     failed zero k rs f h = cc
     failed (suc n) k rs f h = (decides_fail ([] ++ rs), assigned m s t e z value.0 value.1 k (clash rs) f, sym (same_Some _ _ h))
 
     waited : (n k : ℕ) (rs : List Variable) → unify k s [] [] ((t, number z) ∷ []) ≡ Some (wait rs)
         → follow n s (assign_code z) (t ∷ []) 4
-        (record (put_in (begun 4 (t ∷ [])) 1 (leaf (number z))) { behind = false; earlier = [] ++ rs }) ≡ Some d
+        (record (begun 4 (t ∷ [])) { behind = false; earlier = [] ++ rs }) ≡ Some d
         → IsDecided m s (assigns t e) d
     waited zero k rs f h = cc
     waited (suc n) k rs f h = (waits_on ([] ++ rs), assigned m s t e z value.0 value.1 k (wait rs) f, sym (same_Some _ _ h))
 
     ended : (n : ℕ) (o : Option Ended) → unify n s [] [] ((t, number z) ∷ []) ≡ o
-        → given o (unified (follow n s (assign_code z) (t ∷ [])) 2 (put_in (begun 4 (t ∷ [])) 1 (leaf (number z)))) ≡ Some d
+        → given o (unified (follow n s (assign_code z) (t ∷ [])) (t ∷ []) 2 (put_in (begun 4 (t ∷ [])) 1 (leaf (number z)))) ≡ Some d
         → IsDecided m s (assigns t e) d
     ended n None f h = cc
     ended n (Some (done bs rs)) f h = committed n n bs rs f h

@@ -1,6 +1,6 @@
 -- Words that lead on go on to do so with more reads and more pieces, and new pieces have their forms.
 use Rattle.std.proofs.Common.{◌≡◌, ℕ, zero, suc, ◌+◌, ◌<◌, ◌≤◌, Bool, true, false, cond, List, [], ◌∷◌, ◌++◌, length, refl, sym, ap, ◌∙◌}
-use Rattle.std.proofs.Common.{subst, inl, inr, ⊎_elim, arith, Some, None}
+use Rattle.std.proofs.Common.{subst, inl, inr, ⊎_elim, arith, Option, Some, None}
 use Rattle.std.specs.Prelude.{slice_get, nat_eq}
 use Rattle.std.proofs.lemmas.Bool.{lt-ltb, le-ltb}
 use Rattle.std.proofs.lemmas.Option.{same_Some}
@@ -18,7 +18,7 @@ use Rattle.word_states.specs.Led.{IsKnown, read_at, reached, reached_by, of_proc
 use Rattle.word_states.proofs.Pieces.{in_rows, rows_in}
 use Rattle.trial_laws.specs.AtHand.{AtHand, term_word}
 use Rattle.trial_laws.specs.NewPieces.{with_piece, HasRoom, term_words}
-use Rattle.trial_laws.specs.Leading.{IsTermWord, IsLedOn, LedByMore, LedSlot}
+use Rattle.trial_laws.specs.Leading.{IsTermWord, IsLedOn, LedByMore, LedSlot, LedLeft}
 use Rattle.trial_laws.proofs.Pieces.{starts_left, starts_split, end_last}
 use Rattle.trial_laws.proofs.Slots.{nil_is}
 
@@ -55,6 +55,27 @@ module _ (read read' : WordList) (more : (z : ℕ × ℕ) → Among read z → A
   pub read_more : (ps : List (List ℕ)) (x : ℕ) → LeadsOn read ps x → LeadsOn read' ps x
   read_more ps x (inl h) = inl (led_more x h)
   read_more ps x (inr h) = inr h
+
+-- with no pieces and no bindings, and with the goal's arguments in the slots
+pub led_left : LedLeft
+led_left read r h behind waits words led terms = (
+  record {
+    pieces = record { each = λ a p s. absurd s; few = omega arith };
+    slots = λ i. inl (led i);
+    terms = terms;
+    bound = λ a x e. let g : None ≡ Some x = e in cc;
+    places = λ a x e. let g : None ≡ Some x = e in cc;
+    own = λ a x e f. let g : None ≡ Some x = e in cc;
+  },
+  record {
+    pieces = h.pieces;
+    slots = λ i. inl (led i);
+    terms = terms;
+    bound = h.bound;
+    places = h.places;
+    own = h.own;
+  },
+)
 
 pub led_by_more : LedByMore
 led_by_more read r h read' more = record {

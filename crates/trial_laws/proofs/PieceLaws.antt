@@ -16,9 +16,9 @@ use Rattle.word_states.specs.Numbers.{part_count}
 use Rattle.word_states.specs.Pieces.{is_place, with_own, with_variables}
 use Rattle.word_states.proofs.Persisting.{denotes_final, denotes_on, expr_on}
 use Rattle.word_states.proofs.Pieces.{not_zero, not_nine, raw_final, not_place}
-use Rattle.machine_code.specs.Slots.{Slots, as_term, parts_from}
+use Rattle.machine_code.specs.Slots.{Slots, hold, as_term, parts_from}
 use Rattle.machine_code.specs.Instructions.{PutWord, PutCons, PutTuple}
-use Rattle.machine_code.specs.Machine.{Trying, put_in}
+use Rattle.machine_code.specs.Machine.{Trying}
 use Rattle.trial_laws.specs.AtHand.{AtHand, term_word, IsStore, StandsForTry}
 use Rattle.trial_laws.specs.NewPieces.{next_piece, with_piece, term_words, LawOfPair, LawOfTuple, LawOfOperation, LawOfWide}
 use Rattle.trial_laws.proofs.Pieces.{starts_last, word_of_piece}
@@ -77,7 +77,7 @@ pair_leads w vs bound ops args at r t store formed s i left right e room =
     let d = term_says w vs bound r t left s in
     let f = denotes_final _ _ (term_word r left) _ d in
     record {
-      state = put_in t i (leaf (cons (as_term (t.slots left)) (as_term (t.slots right))));
+      slots = hold t.slots i (leaf (cons (as_term (t.slots left)) (as_term (t.slots right))));
       stands = put_stands w vs bound (with_piece r (term_word r left ∷ term_word r right ∷ [])) t i (encoded (Cons (next_piece r)))
           (leaf (cons (as_term (t.slots left)) (as_term (t.slots right))))
           (with_more w vs bound r t store s (term_word r left) (term_word r right ∷ []) f) (
@@ -103,7 +103,7 @@ tuple_leads w vs bound ops args at r t store formed s i from n e few room =
     let f = raw_final (encoded (Raw n)) n is in
     let same = part_count_from t.slots from n in
     record {
-      state = put_in t i (leaf (tuple (parts_from t.slots from n)));
+      slots = hold t.slots i (leaf (tuple (parts_from t.slots from n)));
       stands = put_stands w vs bound (with_piece r (encoded (Raw n) ∷ term_words r from n)) t i (encoded (Tuple (next_piece r)))
           (leaf (tuple (parts_from t.slots from n)))
           (with_more w vs bound r t store s (encoded (Raw n)) (term_words r from n) f) (
@@ -141,7 +141,7 @@ operation_leads w vs bound ops args at r t store formed s i from n o e room =
     decoded_encoded (Raw (66 + operator_code o)) (omega (arith, few)) in
     let f = raw_final (encoded (Raw (66 + operator_code o))) (66 + operator_code o) is in
     record {
-      state = put_in t i (op o (t.slots from) (t.slots (suc from)));
+      slots = hold t.slots i (op o (t.slots from) (t.slots (suc from)));
       stands = put_stands w vs bound (with_piece r (encoded (Raw (66 + operator_code o)) ∷ r.slots from ∷ r.slots (suc from) ∷ [])) t i
           (encoded (Tuple (next_piece r))) (op o (t.slots from) (t.slots (suc from)))
           (with_more w vs bound r t store s (encoded (Raw (66 + operator_code o))) (r.slots from ∷ r.slots (suc from) ∷ []) f) (
@@ -172,7 +172,7 @@ pub wide_leads : LawOfWide
 wide_leads w vs bound ops args at r t store formed s i x h z low e is parts long upper room =
     let f : is_final_word x ≡ true = ap is_final_in is in
     record {
-      state = put_in t i (leaf (number z));
+      slots = hold t.slots i (leaf (number z));
       stands = put_stands w vs bound (with_piece r (x ∷ [])) t i (encoded (Wide (next_piece r) h)) (leaf (number z))
           (with_more w vs bound r t store s x [] f)
           (inr (

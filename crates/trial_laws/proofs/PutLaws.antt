@@ -8,9 +8,9 @@ use Rattle.heap_words.specs.declared.cell.Cell.TheVariants.{Ref, RoRef}
 use Rattle.heap_words.proofs.Encodings.{decoded_encoded}
 use Rattle.word_states.specs.Pieces.{place_words, numbered, with_own, with_variables}
 use Rattle.word_states.proofs.Lists.{listed_right}
+use Rattle.machine_code.specs.Slots.{hold}
 use Rattle.machine_code.specs.Instructions.{PutVar, PutWord, Jump}
-use Rattle.machine_code.specs.Machine.{put_in}
-use Rattle.trial_laws.specs.Laws.{LawOfJump, LawOfVariable, LawOfReadOnly, LawOfConstant}
+use Rattle.trial_laws.specs.Laws.{LawOfJump, LawOfVariable, LawOfReadOnly, LawOfConstant, LawOfBase}
 use Rattle.trial_laws.proofs.Slots.{step, put_stands, own_place}
 
 pub jump_leads : LawOfJump
@@ -21,7 +21,7 @@ pub variable_leads : LawOfVariable
 variable_leads w vs bound ops args at r t store formed s i k a e l =
     let p = own_place r.pieces formed (own k) a l in
     record {
-      state = put_in t i (leaf (var (own k)));
+      slots = hold t.slots i (leaf (var (own k)));
       stands = put_stands w vs bound r t i (encoded (Ref a)) (leaf (var (own k))) s
           (a, decoded_encoded (Ref a) p.6, listed_right vs (numbered 1 (place_words 4000000000 r.pieces)) (own k) a l);
       gives = λ m g. step bound ops args at (suc at) t _ (PutVar i k false) m e (λ n. refl) g;
@@ -31,7 +31,7 @@ pub read_only_leads : LawOfReadOnly
 read_only_leads w vs bound ops args at r t store formed s i k a e l =
     let p = own_place r.pieces formed (own k) a l in
     record {
-      state = put_in t i (leaf (ro (own k)));
+      slots = hold t.slots i (leaf (ro (own k)));
       stands = put_stands w vs bound r t i (encoded (RoRef a)) (leaf (ro (own k))) s
           (a, decoded_encoded (RoRef a) p.6, listed_right vs (numbered 1 (place_words 4000000000 r.pieces)) (own k) a l);
       gives = λ m g. step bound ops args at (suc at) t _ (PutVar i k true) m e (λ n. refl) g;
@@ -39,7 +39,10 @@ read_only_leads w vs bound ops args at r t store formed s i k a e l =
 
 pub constant_leads : LawOfConstant
 constant_leads w vs bound ops args at r t store formed s i x c e h = record {
-  state = put_in t i (leaf c);
+  slots = hold t.slots i (leaf c);
   stands = put_stands w vs bound r t i x (leaf c) s (h (with_own r.pieces w) (with_variables r.pieces vs));
   gives = λ m g. step bound ops args at (suc at) t _ (PutWord i c) m e (λ n. refl) g;
 }
+
+pub base_stays : LawOfBase
+base_stays w vs bound ops args at r t store formed s b base at' r' p = base

@@ -17,7 +17,7 @@ use Rattle.machine_code.specs.Slots.{arguments, argument}
 use Rattle.machine_code.specs.Instructions.{Try}
 use Rattle.machine_code.specs.Machine.{Trying}
 use Rattle.trial_laws.specs.AtHand.{AtHand, is_operator, end_of, GoalsSay, IsStore, StandsForTry}
-use Rattle.trial_laws.specs.Laws.{places_for, AreArguments, begun, LawOfTry, LawOfStart, LawOfLeaving}
+use Rattle.trial_laws.specs.Laws.{places_for, AreArguments, begun, LawOfTry, LawOfStart, LawOfLeaving, LawOfClearing}
 use Rattle.trial_laws.proofs.Pieces.{piece_word, store_word, place_on}
 use Rattle.trial_laws.proofs.Slots.{step, nil_is}
 use Rattle.trial_laws.proofs.TriedPlaces.{read_among}
@@ -135,17 +135,36 @@ started w vs bound store = record {
         (subst (λ (l : Addresses). PlaceSays w l x (find bound v)) (sym (append-nil vs)) h)
 
 pub leaves : LawOfLeaving
-leaves w vs bound ops args at r t store formed s behind rs qs waits named noted = record {
+leaves w vs bound ops args at r t store formed s behind rs qs waits words named noted given =
+    let b = begins w vs bound 0 store args words given r t r.clause r.next s in
+    record {
+      clause = s.clause;
+      next = s.next;
+      behind = refl;
+      slots = b.slots;
+      operators = b.operators;
+      places = b.places;
+      binds_named = b.binds_named;
+      binds_open = b.binds_open;
+      bound_named = b.bound_named;
+      reads = tt;
+      waits = read_among w vs bound r.pieces store r.waits waits rs t.earlier qs s.waits named noted;
+      children = tt;
+    }
+
+pub clears : LawOfClearing
+clears w vs bound ops args at r t store formed s words given = record {
   clause = s.clause;
   next = s.next;
-  behind = refl;
-  slots = s.slots;
-  operators = s.operators;
+  behind = s.behind;
+  slots = λ i. expr_on _ _ _ _ (λ a x e f. store_word w r.pieces a x (store.low a x e) e)
+      (λ v a h. listed_left vs (numbered 1 (place_words 4000000000 r.pieces)) v a h) (words i) (arguments args i) (given i);
+  operators = λ i. kind_of (slice_get args i);
   places = s.places;
   binds_named = s.binds_named;
   binds_open = s.binds_open;
   bound_named = s.bound_named;
-  reads = tt;
-  waits = read_among w vs bound r.pieces store r.waits waits rs t.earlier qs s.waits named noted;
+  reads = s.reads;
+  waits = s.waits;
   children = s.children;
 }

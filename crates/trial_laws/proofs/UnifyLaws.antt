@@ -25,7 +25,7 @@ use Rattle.machine_code.specs.Slots.{as_term}
 use Rattle.machine_code.specs.Instructions.{Op, Unify}
 use Rattle.machine_code.specs.Machine.{Trying, Meaning, unified, follow}
 use Rattle.trial_laws.specs.AtHand.{AtHand, ArePieces, IsStore, StandsForTry, Gives, Leads}
-use Rattle.trial_laws.specs.Laws.{AreNoted, left, after_leave}
+use Rattle.trial_laws.specs.Laws.{AreArguments, AreNoted, left, after_leave}
 use Rattle.trial_laws.specs.Unifying.{UnifiesSlots, LawOfUnify, LawOfClash, LawOfPause}
 use Rattle.trial_laws.proofs.Slots.{step_given}
 use Rattle.trial_laws.proofs.TryLaws.{leaves}
@@ -133,30 +133,31 @@ module _ (w : Words) (vs : Addresses) (bound : Bindings) (ops : List Op) (args :
 
   -- what the code gives after that end
   gives_after : (at' : ℕ) (t' : Trying) (end : endings.Ended) → end ≡ known.end
-      → ((n : ℕ) → unified (follow n bound ops args) at t end ≡ follow n bound ops args at' t') → (d : Meaning)
+      → ((n : ℕ) → unified (follow n bound ops args) args at t end ≡ follow n bound ops args at' t') → (d : Meaning)
       → Gives bound ops args at' t' d → Gives bound ops args at t d
   gives_after at' t' end f same d g =
       step_given bound ops args at at' t t' (Unify i j)
       (λ n. unify n bound t.bound t.read ((as_term (t.slots i), as_term (t.slots j)) ∷ []))
-      (λ go x. unified go at t x) known.end d is
+      (λ go x. unified go args at t x) known.end d is
       (λ n. unify_more bound n t.bound t.read ((as_term (t.slots i), as_term (t.slots j)) ∷ [])) (λ n. refl)
-      (λ n. ap (λ (x : endings.Ended). unified (follow n bound ops args) at t x) (sym f) ∙ same n)
+      (λ n. ap (λ (x : endings.Ended). unified (follow n bound ops args) args at t x) (sym f) ∙ same n)
       known.steps (found w vs bound r t store formed s i j e unifies) g
 
   -- a try that is left goes on at the next one
-  leaves_to : (behind : Bool) (rs waits : List ℕ) → Each (IsNamed (naming (with_variables r.pieces vs))) rs
-      → AreNoted r.waits rs waits → (behind' : Bool) → behind ≡ behind'
-      → ((d : Meaning) → Gives bound ops args t.next (after_leave t behind' (map (naming (with_variables r.pieces vs)).name rs)) d
-      → Gives bound ops args at t d) → Leads w vs bound ops args at t r.next (left r behind waits)
-  leaves_to behind rs waits each noted behind' same gives = record {
-    state = after_leave t behind' (map (naming (with_variables r.pieces vs)).name rs);
+  leaves_to : (behind : Bool) (rs waits : List ℕ) (words : ℕ → ℕ) → Each (IsNamed (naming (with_variables r.pieces vs))) rs
+      → AreNoted r.waits rs waits → AreArguments w vs args words → (behind' : Bool) → behind ≡ behind'
+      → ((d : Meaning) → Gives bound ops args t.next (after_leave t args behind' (map (naming (with_variables r.pieces vs)).name rs)) d
+      → Gives bound ops args at t d) → Leads w vs bound ops args at t r.next (left r behind waits words)
+  leaves_to behind rs waits words each noted given behind' same gives = record {
+    state = after_leave t args behind' (map (naming (with_variables r.pieces vs)).name rs);
     stands = subst
-        (λ (b : Bool). StandsForTry w vs bound (left r behind waits) (after_leave t b (map (naming (with_variables r.pieces vs)).name rs)))
+        (λ (b : Bool). StandsForTry w vs bound (left r behind waits words)
+        (after_leave t args b (map (naming (with_variables r.pieces vs)).name rs)))
         same
-        (leaves w vs bound ops args at r t store formed s behind rs (map (naming (with_variables r.pieces vs)).name rs) waits
-        (calls w vs bound r t store formed s i j e unifies rs each) noted);
+        (leaves w vs bound ops args at r t store formed s behind rs (map (naming (with_variables r.pieces vs)).name rs) waits words
+        (calls w vs bound r t store formed s i j e unifies rs each) noted given);
     gives = λ d g. gives d (subst
-        (λ (a : ℕ). Gives bound ops args a (after_leave t behind' (map (naming (with_variables r.pieces vs)).name rs)) d) s.next g);
+        (λ (a : ℕ). Gives bound ops args a (after_leave t args behind' (map (naming (with_variables r.pieces vs)).name rs)) d) s.next g);
   }
 
 pub unify_leads : LawOfUnify
@@ -185,35 +186,35 @@ unify_leads w vs bound ops args at r t store formed s i j bs rs e unifies =
     go _ _ (paused rs') f g n = cc
 
 pub clash_leads : LawOfClash
-clash_leads w vs bound ops args at r t store formed s i j rs waits e unifies noted =
+clash_leads w vs bound ops args at r t store formed s i j rs waits words e unifies noted given =
     let k = so w vs bound r t store formed s i j (clash rs) unifies in go (clash rs) k.end k.alike refl refl
   where
     go : (d : Ended) (end : endings.Ended) → EndsAs (naming (with_variables r.pieces vs)) (memory_of (with_own r.pieces w)) bound d end
         → d ≡ clash rs → end ≡ (so w vs bound r t store formed s i j (clash rs) unifies).end
-        → Leads w vs bound ops args at t r.next (left r r.behind waits)
+        → Leads w vs bound ops args at t r.next (left r r.behind waits words)
     go _ _ (finished bs' rs' us st) f g = cc
     go _ _ (clashed rs') f g =
         let j' : rs' ≡ rs = cc in
-        leaves_to w vs bound ops args at r t store formed s i j e (clash rs) unifies r.behind rs waits
-        (ends_named w vs bound r t store formed s i j (clash rs) unifies) noted t.behind s.behind
+        leaves_to w vs bound ops args at r t store formed s i j e (clash rs) unifies r.behind rs waits words
+        (ends_named w vs bound r t store formed s i j (clash rs) unifies) noted given t.behind s.behind
         (gives_after w vs bound ops args at r t store formed s i j e (clash rs) unifies t.next _
         (endings.clash (map (naming (with_variables r.pieces vs)).name rs))
         (ap (λ (z : List ℕ). endings.clash (map (naming (with_variables r.pieces vs)).name z)) (sym j') ∙ g) (λ m. refl))
     go _ _ (paused rs') f g = cc
 
 pub pause_leads : LawOfPause
-pause_leads w vs bound ops args at r t store formed s i j rs waits e unifies noted =
+pause_leads w vs bound ops args at r t store formed s i j rs waits words e unifies noted given =
     let k = so w vs bound r t store formed s i j (stop rs) unifies in go (stop rs) k.end k.alike refl refl
   where
     go : (d : Ended) (end : endings.Ended) → EndsAs (naming (with_variables r.pieces vs)) (memory_of (with_own r.pieces w)) bound d end
         → d ≡ stop rs → end ≡ (so w vs bound r t store formed s i j (stop rs) unifies).end
-        → Leads w vs bound ops args at t r.next (left r false waits)
+        → Leads w vs bound ops args at t r.next (left r false waits words)
     go _ _ (finished bs' rs' us st) f g = cc
     go _ _ (clashed rs') f g = cc
     go _ _ (paused rs') f g =
         let j' : rs' ≡ rs = cc in
-        leaves_to w vs bound ops args at r t store formed s i j e (stop rs) unifies false rs waits
-        (ends_named w vs bound r t store formed s i j (stop rs) unifies) noted false refl
+        leaves_to w vs bound ops args at r t store formed s i j e (stop rs) unifies false rs waits words
+        (ends_named w vs bound r t store formed s i j (stop rs) unifies) noted given false refl
         (gives_after w vs bound ops args at r t store formed s i j e (stop rs) unifies t.next _
         (endings.wait (map (naming (with_variables r.pieces vs)).name rs))
         (ap (λ (z : List ℕ). endings.wait (map (naming (with_variables r.pieces vs)).name z)) (sym j') ∙ g) (λ m. refl))

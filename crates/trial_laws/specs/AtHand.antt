@@ -12,6 +12,7 @@ use Rattle.word_states.specs.Words.{Words, At, over, IsIn}
 use Rattle.word_states.specs.Denoting.{Addresses, Listed, ExprSays, GoalSays}
 use Rattle.word_states.specs.Standing.{PlacesStand, PlaceSays}
 use Rattle.word_states.specs.Pieces.{StartsAt, process_words, IsPiece, with_own, with_variables}
+use Rattle.machine_code.specs.Slots.{Slots, arguments}
 use Rattle.machine_code.specs.Instructions.{Op}
 use Rattle.machine_code.specs.Machine.{Trying, Meaning, follow}
 
@@ -110,3 +111,19 @@ pub record Leads (w : Words) (vs : Addresses) (bound : Bindings) (code : List Op
   pub state : Trying
   pub stands : StandsForTry w vs bound r' state
   pub gives : (d : Meaning) → Gives bound code args at' state d → Gives bound code args at t d
+
+-- An instruction that puts led on: the same for the former try with other slots, and with nothing else changed.
+pub record LeadsByPut (w : Words) (vs : Addresses) (bound : Bindings) (code : List Op) (args : List (Term Variable)) (at : ℕ) (t : Trying)
+    (at' : ℕ) (r' : AtHand) : Type 0 where
+  pub slots : Slots
+  pub stands : StandsForTry w vs bound r' (record t { slots = slots })
+  pub gives : (d : Meaning) → Gives bound code args at' (record t { slots = slots }) d → Gives bound code args at t d
+
+-- so it led on
+abbrev pub led_by : {w : Words} {vs : Addresses} {bound : Bindings} {code : List Op} {args : List (Term Variable)} {at : ℕ} {t : Trying}
+    {at' : ℕ} {r' : AtHand} → LeadsByPut w vs bound code args at t at' r' → Leads w vs bound code args at t at' r'
+led_by {t} p = record { state = record t { slots = p.slots }; stands = p.stands; gives = p.gives }
+
+-- what was at hand before a test's terms were put: it stands for the same try with the goal's arguments in the slots
+abbrev pub IsBaseOf : Words → Addresses → Bindings → List (Term Variable) → AtHand → Trying → Type 0
+IsBaseOf w vs bound args b t = StandsForTry w vs bound b (record t { slots = arguments args })

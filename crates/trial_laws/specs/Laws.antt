@@ -12,7 +12,8 @@ use Rattle.word_states.specs.Pieces.{StartsAt, place_words, process_words, numbe
 use Rattle.machine_code.specs.Slots.{arguments}
 use Rattle.machine_code.specs.Instructions.{Op, Try, GetFirst, PutVar, PutWord, Jump}
 use Rattle.machine_code.specs.Machine.{Trying, untried}
-use Rattle.trial_laws.specs.AtHand.{AtHand, term_word, end_of, ArePieces, AreCalled, IsStore, StandsForTry, Leads}
+use Rattle.trial_laws.specs.AtHand.{AtHand, term_word, end_of, ArePieces, AreCalled, IsStore, StandsForTry, Leads, LeadsByPut, led_by}
+use Rattle.trial_laws.specs.AtHand.{IsBaseOf}
 
 -- a slot takes a word, which is an operator's or not
 abbrev pub holding : AtHand → ℕ → ℕ → Bool → AtHand
@@ -49,18 +50,23 @@ LawOfJump = Always (λ w vs bound ops args at r t. (to : ℕ) → slice_get ops 
 abbrev pub LawOfVariable : Type 0
 LawOfVariable = Always (λ w vs bound ops args at r t. (i k a : ℕ) → slice_get ops at ≡ Some (PutVar i k false)
     → Listed (numbered 1 (place_words 4000000000 r.pieces)) (own k) a
-    → Leads w vs bound ops args at t (suc at) (filled r i (encoded (cell.Ref a))))
+    → LeadsByPut w vs bound ops args at t (suc at) (filled r i (encoded (cell.Ref a))))
 
 -- or a read-only one
 abbrev pub LawOfReadOnly : Type 0
 LawOfReadOnly = Always (λ w vs bound ops args at r t. (i k a : ℕ) → slice_get ops at ≡ Some (PutVar i k true)
     → Listed (numbered 1 (place_words 4000000000 r.pieces)) (own k) a
-    → Leads w vs bound ops args at t (suc at) (filled r i (encoded (cell.RoRef a))))
+    → LeadsByPut w vs bound ops args at t (suc at) (filled r i (encoded (cell.RoRef a))))
 
 -- the slot takes a constant, whose word denotes it wherever it stands
 abbrev pub LawOfConstant : Type 0
 LawOfConstant = Always (λ w vs bound ops args at r t. (i x : ℕ) (c : Term Variable) → slice_get ops at ≡ Some (PutWord i c)
-    → ((u : Words) (us : Addresses) → Denotes u us x c) → Leads w vs bound ops args at t (suc at) (filled r i x))
+    → ((u : Words) (us : Addresses) → Denotes u us x c) → LeadsByPut w vs bound ops args at t (suc at) (filled r i x))
+
+-- what was at hand before a put is what was at hand before terms were put of the try that the put leaves, too
+abbrev pub LawOfBase : Type 0
+LawOfBase = Always (λ w vs bound ops args at r t. (b : AtHand) → IsBaseOf w vs bound args b t → (at' : ℕ) (r' : AtHand)
+    → (p : LeadsByPut w vs bound ops args at t at' r') → IsBaseOf w vs bound args b (led_by p).state)
 
 -- the own place takes the slot's word
 abbrev pub LawOfFirst : Type 0
@@ -94,6 +100,15 @@ abbrev pub LawOfTry : Type 0
 LawOfTry = Always (λ w vs bound ops args at r t. (k next n : ℕ) (words : ℕ → ℕ) → slice_get ops at ≡ Some (Try k next)
     → AreArguments w vs args words → Leads w vs bound ops args at t (suc at) (begun r k next n words))
 
+-- the slots take the goal's arguments again
+abbrev pub cleared : AtHand → (ℕ → ℕ) → AtHand
+cleared r words = record r { slots = words; operators = λ i. false }
+
+-- so what is at hand is what was at hand before a test's terms are put
+abbrev pub LawOfClearing : Type 0
+LawOfClearing = Always (λ w vs bound ops args at r t. (words : ℕ → ℕ) → AreArguments w vs args words
+    → IsBaseOf w vs bound args (cleared r words) t)
+
 -- before the first try nothing is at hand
 abbrev pub empty : AtHand
 empty = record {
@@ -116,16 +131,25 @@ LawOfStart = (w : Words) (vs : Addresses) (bound : Bindings) → IsStore w vs bo
 abbrev pub AreNoted : List ℕ → List ℕ → List ℕ → Type 0
 AreNoted waits reads waits' = (a : ℕ) → IsIn a waits' ↔ (IsIn a waits ⊎ (IsIn a reads × (a < 4000000000)))
 
--- a try is left, and what it read is noted
-abbrev pub left : AtHand → Bool → List ℕ → AtHand
-left r behind waits = record r { behind = behind; reads = []; waits = waits }
+-- a try is left, and what it read is noted; the slots take the goal's arguments, and all else that it put, bound and read goes
+abbrev pub left : AtHand → Bool → List ℕ → (ℕ → ℕ) → AtHand
+left r behind waits words = record r {
+  slots = words;
+  operators = λ i. false;
+  pieces = [];
+  binds = [];
+  reads = [];
+  behind = behind;
+  waits = waits;
+}
 
--- the try after a leave, by the reads of the one that is left
-abbrev pub after_leave : Trying → Bool → List Variable → Trying
-after_leave t behind qs = record t { behind = behind; earlier = t.earlier ++ qs; read = [] }
+-- the try after a leave, by the goal's arguments and the reads of the one that is left
+abbrev pub after_leave : Trying → List (Term Variable) → Bool → List Variable → Trying
+after_leave t args behind qs =
+    record t { slots = arguments args; bound = []; read = []; children = []; behind = behind; earlier = t.earlier ++ qs }
 
 -- A try ends without success after it read these places.
 abbrev pub LawOfLeaving : Type 0
-LawOfLeaving = Always (λ w vs bound ops args at r t. (behind : Bool) (rs : List ℕ) (qs : List Variable) (waits : List ℕ)
-    → AreCalled (with_variables r.pieces vs) rs qs → AreNoted r.waits rs waits
-    → StandsForTry w vs bound (left r behind waits) (after_leave t behind qs))
+LawOfLeaving = Always (λ w vs bound ops args at r t. (behind : Bool) (rs : List ℕ) (qs : List Variable) (waits : List ℕ) (words : ℕ → ℕ)
+    → AreCalled (with_variables r.pieces vs) rs qs → AreNoted r.waits rs waits → AreArguments w vs args words
+    → StandsForTry w vs bound (left r behind waits words) (after_leave t args behind qs))

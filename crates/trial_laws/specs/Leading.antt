@@ -13,7 +13,7 @@ use Rattle.word_states.specs.Pieces.{rows, place_words, numbered}
 use Rattle.word_states.specs.Led.{IsLed, LeadsOn, AreLed}
 use Rattle.fcp_model.specs.Places.{own}
 use Rattle.trial_laws.specs.AtHand.{AtHand, term_word, ArePieces}
-use Rattle.trial_laws.specs.Laws.{Always, holding, IsFilled, begun}
+use Rattle.trial_laws.specs.Laws.{Always, holding, IsFilled, begun, left, cleared}
 use Rattle.trial_laws.specs.NewPieces.{next_piece, with_piece, HasRoom, term_words, child_piece}
 use Rattle.trial_laws.specs.Endings.{settled, of_store}
 
@@ -82,6 +82,11 @@ LedFirst = Led (λ read r. (i s : ℕ) (ps : List (List ℕ)) → IsFilled s (te
 abbrev pub LedTry : Type 0
 LedTry = Led (λ read r. (k next n : ℕ) (words : ℕ → ℕ) → n < 256 → ((i : ℕ) → IsLed read (words i)) → ((i : ℕ) → IsTermWord (words i))
     → IsLedOn read (begun r k next n words))
+
+-- a try is left, or the slots take the goal's arguments again, with words that lead on as these
+abbrev pub LedLeft : Type 0
+LedLeft = Led (λ read r. (behind : Bool) (waits : List ℕ) (words : ℕ → ℕ) → ((i : ℕ) → IsLed read (words i))
+    → ((i : ℕ) → IsTermWord (words i)) → IsLedOn read (left r behind waits words) × IsLedOn read (cleared r words))
 
 -- two slots are unified over what was seen
 abbrev pub LedUnification : Type 0

@@ -9,7 +9,7 @@ use Rattle.heap_words.specs.declared.cell.Cell.TheVariants as cell
 use Rattle.word_states.specs.Denoting.{operator_code}
 use Rattle.word_states.specs.Numbers.{bits, low_bits, IsLong}
 use Rattle.machine_code.specs.Instructions.{PutWord, PutCons, PutTuple, Spawn}
-use Rattle.trial_laws.specs.AtHand.{AtHand, term_word, end_of, Leads}
+use Rattle.trial_laws.specs.AtHand.{AtHand, term_word, end_of, Leads, LeadsByPut}
 use Rattle.trial_laws.specs.Laws.{Always, holding}
 
 -- where the next piece begins
@@ -32,21 +32,21 @@ term_words r i (suc n) = term_word r i ∷ term_words r (suc i) n
 -- a slot takes a new pair
 abbrev pub LawOfPair : Type 0
 LawOfPair = Always (λ w vs bound ops args at r t. (i left right : ℕ) → slice_get ops at ≡ Some (PutCons i left right) → HasRoom r 2
-    → Leads w vs bound ops args at t (suc at)
+    → LeadsByPut w vs bound ops args at t (suc at)
     (holding (with_piece r (term_word r left ∷ term_word r right ∷ [])) i (encoded (cell.Cons (next_piece r))) false))
 
 -- a new tuple, of fewer than 66 parts
 abbrev pub LawOfTuple : Type 0
 LawOfTuple = Always (λ w vs bound ops args at r t. (i from n : ℕ) → slice_get ops at ≡ Some (PutTuple i from n None) → n < 66
     → HasRoom r (suc n)
-    → Leads w vs bound ops args at t (suc at)
+    → LeadsByPut w vs bound ops args at t (suc at)
     (holding (with_piece r (encoded (cell.Raw n) ∷ term_words r from n)) i (encoded (cell.Tuple (next_piece r))) false))
 
 -- a new operation, whose operands are the contents of two slots
 abbrev pub LawOfOperation : Type 0
 LawOfOperation = Always (λ w vs bound ops args at r t. (i from n : ℕ) (o : ArithOp) → slice_get ops at ≡ Some (PutTuple i from n (Some o))
     → HasRoom r 3
-    → Leads w vs bound ops args at t (suc at)
+    → LeadsByPut w vs bound ops args at t (suc at)
     (holding (with_piece r (encoded (cell.Raw (66 + operator_code o)) ∷ r.slots from ∷ r.slots (suc from) ∷ [])) i
     (encoded (cell.Tuple (next_piece r))) true))
 
@@ -54,7 +54,7 @@ LawOfOperation = Always (λ w vs bound ops args at r t. (i from n : ℕ) (o : Ar
 abbrev pub LawOfWide : Type 0
 LawOfWide = Always (λ w vs bound ops args at r t. (i x h : ℕ) (z low : ℤ) → slice_get ops at ≡ Some (PutWord i (number z))
     → decoded x ≡ Some (cell.Small low) → bits z ≡ h * 0x100000000000000 + low_bits low → IsLong z → h < 256 → HasRoom r 1
-    → Leads w vs bound ops args at t (suc at) (holding (with_piece r (x ∷ [])) i (encoded (cell.Wide (next_piece r) h)) false))
+    → LeadsByPut w vs bound ops args at t (suc at) (holding (with_piece r (x ∷ [])) i (encoded (cell.Wide (next_piece r) h)) false))
 
 -- the piece of a process: 9, the word of the status Ready; its name, which is 0 until the entry has its number; its procedure and its
 -- arguments

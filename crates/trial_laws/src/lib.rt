@@ -1,7 +1,7 @@
 //! What a trial has at hand stands for a state of the code's meaning: one law for each instruction.
 #![tactic(auto)]
 
-ghost use Rattle.trial_laws.specs.Laws.{LawOfStart, LawOfTry, LawOfLeaving, LawOfJump, LawOfFirst};
+ghost use Rattle.trial_laws.specs.Laws.{LawOfStart, LawOfTry, LawOfLeaving, LawOfJump, LawOfFirst, LawOfClearing, LawOfBase};
 ghost use Rattle.trial_laws.specs.Laws.{LawOfVariable, LawOfReadOnly, LawOfConstant};
 ghost use Rattle.trial_laws.specs.NewPieces.{LawOfPair, LawOfTuple, LawOfOperation, LawOfWide, LawOfSpawn};
 ghost use Rattle.trial_laws.specs.Opening.{LawOfPairOpened, LawOfNoPair, LawOfTupleOpened, LawOfNoTuple};
@@ -9,22 +9,24 @@ ghost use Rattle.trial_laws.specs.Unifying.{LawOfUnify, LawOfClash, LawOfPause};
 ghost use Rattle.trial_laws.specs.Testing.{LawOfHolds, LawOfFails, LawOfWaits, LawOfOtherwise, LawOfNotOtherwise};
 ghost use Rattle.trial_laws.specs.BuiltIns.{LawOfTrue, LawOfEquals, LawOfAssign, LawOfBadAssign, LawOfUnreadyAssign};
 ghost use Rattle.trial_laws.specs.Leading.{LedByMore, LedSlot, LedVariable, LedPair, LedTuple, LedOperation, LedWide, LedChild};
-ghost use Rattle.trial_laws.specs.Leading.{LedFirst, LedTry, LedUnification, LedCommit, TermsStand};
+ghost use Rattle.trial_laws.specs.Leading.{LedFirst, LedTry, LedLeft, LedUnification, LedCommit, TermsStand};
 ghost use Rattle.trial_laws.specs.Endings.{LawOfCommit, LawOfFail, LawOfWait};
 
-/// A trial and a try begin, and a try is left.
+/// A trial and a try begin, a try is left, and the slots take the goal's arguments again.
 pub fn tries()
     ensures start { LawOfStart }
     ensures begins { LawOfTry }
     ensures leaving { LawOfLeaving }
+    ensures clearing { LawOfClearing }
     ensures jump { LawOfJump }
 {}
 
-/// A slot takes a term.
+/// A slot takes a term. What was at hand before stays what was at hand before terms were put.
 pub fn puts()
     ensures variable { LawOfVariable }
     ensures read_only { LawOfReadOnly }
     ensures constant { LawOfConstant }
+    ensures base { LawOfBase }
 {}
 
 /// A new piece is put after the others: for a slot, or as a child.
@@ -93,6 +95,7 @@ pub fn leads()
     ensures child { LedChild }
     ensures first_ { LedFirst }
     ensures begins { LedTry }
+    ensures leaving { LedLeft }
     ensures unification { LedUnification }
     ensures commit { LedCommit }
     ensures terms { TermsStand }

@@ -1,11 +1,11 @@
 -- What is at hand with a desk, after a word or a piece was put.
-use Rattle.std.proofs.Common.{◌≡◌, ℕ, zero, suc, refl, length, Bool, List, [], ◌∷◌, ◌++◌, ap, ap₂, ◌∙◌}
+use Rattle.std.proofs.Common.{◌≡◌, ℕ, zero, suc, refl, length, take, Bool, true, List, [], ◌∷◌, ◌++◌, ap, ap₂, ◌∙◌}
 use Rattle.heap_words.specs.Trails.{WordList}
 use Rattle.std.specs.Prelude.{slice_get, unwrap_or}
-use Rattle.trial_laws.specs.Laws.{holding, places_for, begun}
+use Rattle.trial_laws.specs.Laws.{holding, places_for, begun, empty}
 use Rattle.trial_laws.specs.NewPieces.{with_piece, term_words}
 use Rattle.trial_machine.specs.Held.{Held, held_term, held_terms, held_with, held_anew}
-use Rattle.trial_machine.specs.Desks.{at_hand}
+use Rattle.trial_machine.specs.Desks.{at_hand, rested, put_away}
 
 -- a word in a slot
 pub word_put : (clause next : ℕ) (behind : Bool) (h h' : Held) (ps : List (List ℕ)) (i x : ℕ) (o : Bool) → h' ≡ held_with h i x o
@@ -46,3 +46,20 @@ line_is s a b z ts x y e f g h k =
 pub terms_length : (h : Held) (i n : ℕ) → length (held_terms h i n) ≡ n
 terms_length h i zero = refl
 terms_length h i (suc n) = ap suc (terms_length h (suc i) n)
+
+-- nothing is at hand
+pub none_at_hand : (h : Held) (ps : List (List ℕ)) → h ≡ held_anew [] → ps ≡ [] → at_hand 0 0 true h ps [] [] [] ≡ empty
+none_at_hand h ps e f = ap₂ (λ (z : Held) (l : List (List ℕ)). at_hand 0 0 true z l [] [] []) e f
+
+-- a try that rests, and one that ends
+pub try_rested : (clause next base : ℕ) (behind : Bool) (h h' : Held) (ps ps' : List (List ℕ)) (args : List ℕ) → h' ≡ held_anew args
+    → ps' ≡ take base ps → (binds : WordList) (reads waits : List ℕ)
+    → at_hand clause next behind h' ps' binds reads waits ≡ rested args base (at_hand clause next behind h ps binds reads waits)
+try_rested clause next base behind h h' ps ps' args e f binds reads waits =
+    ap₂ (λ (z : Held) (l : List (List ℕ)). at_hand clause next behind z l binds reads waits) e f
+
+pub try_ended : (clause next : ℕ) (behind behind' : Bool) (h h' : Held) (ps ps' : List (List ℕ)) (args : List ℕ) → h' ≡ held_anew args
+    → ps' ≡ [] → (binds : WordList) (reads waits : List ℕ)
+    → at_hand clause next behind' h' ps' binds reads waits ≡ put_away args behind' (at_hand clause next behind h ps binds reads waits)
+try_ended clause next behind behind' h h' ps ps' args e f binds reads waits =
+    ap₂ (λ (z : Held) (l : List (List ℕ)). at_hand clause next behind' z l binds reads waits) e f

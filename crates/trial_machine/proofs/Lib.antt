@@ -5,3 +5,5 @@ pub mod AtDesk
 pub mod Children
 pub mod Constants
 pub mod Opened
+pub mod Sizes
+pub mod OpenedTuples

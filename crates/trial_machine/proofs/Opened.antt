@@ -40,16 +40,16 @@ two_held h h' h'' i j x y a b e f k l =
     f ∙ (ap (λ (z : Held). held_with z j y false) e
     ∙ ap₂ (λ (p q : ℕ). held_with (held_with h i p false) j q false) (sym k) (sym l))
 
--- what is so of the words of all slots as terms stays so where two slots take two such words
+-- what is so of the words of all slots as terms stays so where a slot takes such a word
+pub one_so : (P : ℕ → Type 0) (h h' : Held) (i x : ℕ) → h' ≡ held_with h i x false → P x → ((k : ℕ) → P (held_term h k)) → (k : ℕ)
+    → P (held_term h' k)
+one_so P h h' i x e p all k = subst (λ (z : Held). P (held_term z k)) (sym e) (go (nat_eq k i))
+  where
+    go : (b : Bool) → P (cond (cond b false (h.operators k)) 6 (cond b x (h.words k)))
+    go true = p
+    go false = all k
+
+-- and where two slots take two
 pub still_so : (P : ℕ → Type 0) (h h' h'' : Held) (i j x y : ℕ) → h' ≡ held_with h i x false → h'' ≡ held_with h' j y false → P x → P y
     → ((k : ℕ) → P (held_term h k)) → (k : ℕ) → P (held_term h'' k)
-still_so P h h' h'' i j x y e f p q all k =
-    subst (λ (z : Held). P (held_term z k)) (sym f)
-    (one P h' j y q (λ n. subst (λ (z : Held). P (held_term z n)) (sym e) (one P h i x p all n)) k)
-  where
-    one : (P : ℕ → Type 0) (h : Held) (i x : ℕ) → P x → ((k : ℕ) → P (held_term h k)) → (k : ℕ) → P (held_term (held_with h i x false) k)
-    one P h i x p all k = go (nat_eq k i)
-      where
-        go : (b : Bool) → P (cond (cond b false (h.operators k)) 6 (cond b x (h.words k)))
-        go true = p
-        go false = all k
+still_so P h h' h'' i j x y e f p q all = one_so P h' h'' j y f q (one_so P h h' i x e p all)

@@ -1,5 +1,5 @@
 -- A desk as what a try has at hand.
-use Rattle.std.specs.Prelude.{◌≡◌, length, ℕ, Bool, List, [], slice_get, unwrap_or}
+use Rattle.std.specs.Prelude.{◌≡◌, length, take, ℕ, Bool, false, List, [], slice_get, unwrap_or}
 use Rattle.heap_words.specs.Trails.{WordList}
 use Rattle.trial_laws.specs.AtHand.{AtHand}
 use Rattle.trial_laws.specs.Laws.{begun}
@@ -39,3 +39,12 @@ Adds old new p = (binds : WordList) (reads waits : List ℕ)
 abbrev pub Begins : Desk → Desk → ℕ → ℕ → ℕ → Type 0
 Begins old new clause next vars = (binds : WordList) (reads waits : List ℕ) → hand new [] [] waits
     ≡ begun (hand old binds reads waits) clause next vars (λ i. unwrap_or (slice_get old.slots.args i) 6)
+
+-- within a try the slots hold the arguments again, and so many pieces stay
+abbrev pub rested : List ℕ → ℕ → AtHand → AtHand
+rested args base r = record r { slots = λ i. unwrap_or (slice_get args i) 6; operators = λ i. false; pieces = take base r.pieces }
+
+-- A try is over: the slots hold the arguments again, no pieces stay, and it is said whether all tries failed until now. What it bound
+-- and read is the trail's.
+abbrev pub put_away : List ℕ → Bool → AtHand → AtHand
+put_away args behind r = record r { slots = λ i. unwrap_or (slice_get args i) 6; operators = λ i. false; pieces = []; behind = behind }

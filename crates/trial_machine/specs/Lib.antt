@@ -3,3 +3,4 @@ pub mod Cuts
 pub mod Desks
 pub mod Constants
 pub mod Opened
+pub mod Keeping

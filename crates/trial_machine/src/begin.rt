@@ -1,6 +1,8 @@
-//! The making of a desk, and the begin of a try.
-ghost use Rattle.std.specs.Prelude.{◌≡◌, length, IfOk, OnOk};
-ghost use Rattle.trial_machine.specs.Desks.{Begins};
+//! The making of a desk, and the begin, the rest and the end of a try.
+ghost use Rattle.std.specs.Prelude.{◌≡◌, [], length, IfOk, OnOk};
+ghost use Rattle.trial_laws.specs.Laws.{empty};
+ghost use Rattle.trial_machine.specs.Desks.{hand, Becomes, Begins, rested, put_away};
+ghost use Rattle.trial_machine.specs.Keeping.{KeepsArguments, KeepsDesk};
 
 use crate::desk::Desk;
 use crate::pieces::Pieces;
@@ -9,9 +11,11 @@ use fcp_model::NoMemory;
 use std::alloc::Global;
 
 impl Desk {
-    /// A desk with so many slots.
+    /// A desk with so many slots, and nothing at hand: no arguments, no pieces, and no try that did not fail.
     pub fn make(alloc: Global, slots: u32) -> Result<Desk, NoMemory>
-        ensures { IfOk result (λ d. length d.slots.slots ≡ slots) }
+        ensures count { IfOk result (λ d. length d.slots.slots ≡ slots) }
+        ensures args { IfOk result (λ d. d.slots.args ≡ []) }
+        ensures empty { IfOk result (λ d. hand d [] [] [] ≡ empty) }
     {
         Ok(Desk {
             slots: Slots::make(alloc, slots)?,
@@ -23,10 +27,12 @@ impl Desk {
         })
     }
 
-    /// The try of a clause begins: each of its variables has its place, and the slots hold the arguments.
+    /// The try of a clause begins: each of its variables has its place, and the slots hold the arguments. After `NoMemory` the
+    /// pieces are no clause's places, and `begin` may be called again.
     pub fn begin(&mut self, clause: u32, next: u32, vars: u8) -> Result<(), NoMemory>
         ensures begun { OnOk result (Begins self.old self.new clause next vars) }
-        ensures count { OnOk result (length self.new.slots.slots ≡ length self.old.slots.slots) }
+        ensures keeps { KeepsArguments self.old.slots self.new.slots }
+        ensures behind { self.new.behind ≡ self.old.behind }
     {
         self.pieces.clear();
         self.pieces.put_places(vars)?;
@@ -34,5 +40,24 @@ impl Desk {
         self.clause = clause;
         self.next = next;
         Ok(())
+    }
+
+    /// Goes back to the first `base` pieces within a try: the slots hold the arguments again.
+    pub fn rest(&mut self, base: u32)
+        ensures becomes { Becomes self.old self.new (rested self.old.slots.args base) }
+        ensures keeps { KeepsDesk self.old self.new }
+    {
+        self.slots.renew();
+        self.pieces.cut(base);
+    }
+
+    /// A try ends: the slots hold the arguments again, there are no pieces, and `behind` says whether all tries failed until now.
+    pub fn leave(&mut self, behind: bool)
+        ensures becomes { Becomes self.old self.new (put_away self.old.slots.args behind) }
+        ensures keeps { KeepsArguments self.old.slots self.new.slots }
+    {
+        self.slots.renew();
+        self.pieces.clear();
+        self.behind = behind;
     }
 }

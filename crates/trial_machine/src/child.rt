@@ -5,6 +5,7 @@ ghost use Rattle.fcp_model.specs.declared.goal.TheConstants.{UNIFY_PROCEDURE, AS
 ghost use Rattle.trial_laws.specs.AtHand.{term_word};
 ghost use Rattle.trial_laws.specs.NewPieces.{true_piece, process_piece, term_words, child_piece};
 ghost use Rattle.trial_machine.specs.Desks.{Adds};
+ghost use Rattle.trial_machine.specs.Keeping.{KeepsDesk};
 
 use crate::desk::Desk;
 use crate::pieces::put_words;
@@ -19,7 +20,7 @@ impl Desk {
     pub fn put_child(&mut self, procedure: u32, first: u32, count: u32) -> Result<(), NoMemory>
         requires { first + count < 4294967296 }
         ensures adds { OnOk result (Adds self.old self.new (λ r. child_piece r procedure first count)) }
-        ensures count { OnOk result (length self.new.slots.slots ≡ length self.old.slots.slots) }
+        ensures keeps { KeepsDesk self.old self.new }
     {
         if procedure == TRUE_PROCEDURE {
             self.put_true()
@@ -43,7 +44,7 @@ impl Desk {
     /// The process `true`.
     fn put_true(&mut self) -> Result<(), NoMemory>
         ensures adds { OnOk result (Adds self.old self.new (λ _. true_piece)) }
-        ensures count { OnOk result (length self.new.slots.slots ≡ length self.old.slots.slots) }
+        ensures keeps { KeepsDesk self.old self.new }
     {
         let piece = [
             READY,
@@ -60,7 +61,7 @@ impl Desk {
         requires { first + 1 < 4294967296 }
         ensures adds { OnOk result
             (Adds self.old self.new (λ r. process_piece UNIFY_PROCEDURE (term_word r first ∷ term_word r (suc first) ∷ []))) }
-        ensures count { OnOk result (length self.new.slots.slots ≡ length self.old.slots.slots) }
+        ensures keeps { KeepsDesk self.old self.new }
     {
         let name = encode(Cell::Raw(UNIFY_PROCEDURE));
         let count = encode(Cell::Raw(2));
@@ -81,7 +82,7 @@ impl Desk {
         requires { first + 1 < 4294967296 }
         ensures adds { OnOk result
             (Adds self.old self.new (λ r. process_piece ASSIGN_PROCEDURE (term_word r first ∷ r.slots (suc first) ∷ []))) }
-        ensures count { OnOk result (length self.new.slots.slots ≡ length self.old.slots.slots) }
+        ensures keeps { KeepsDesk self.old self.new }
     {
         let name = encode(Cell::Raw(ASSIGN_PROCEDURE));
         let count = encode(Cell::Raw(2));
@@ -101,7 +102,7 @@ impl Desk {
     fn put_call(&mut self, procedure: u32, first: u32, count: u32) -> Result<(), NoMemory>
         requires { first + count < 4294967296 }
         ensures adds { OnOk result (Adds self.old self.new (λ r. process_piece procedure (term_words r first count))) }
-        ensures count { OnOk result (length self.new.slots.slots ≡ length self.old.slots.slots) }
+        ensures keeps { KeepsDesk self.old self.new }
     {
         self.line.clear();
         let head = [

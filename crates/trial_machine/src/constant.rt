@@ -7,6 +7,7 @@ ghost use Rattle.ro_unify.specs.Alike.{wide_of};
 ghost use Rattle.word_states.specs.Numbers.{IsLong};
 ghost use Rattle.machine_code.specs.Reading.{wide, small_in, small_of, constant};
 ghost use Rattle.trial_machine.specs.Constants.{TakesConstant, IsLow, plain_word};
+ghost use Rattle.trial_machine.specs.Keeping.{KeepsDesk};
 
 use crate::desk::Desk;
 use fcp_model::NoMemory;
@@ -97,7 +98,7 @@ impl Desk {
         requires slot { slot < length self.old.slots.slots }
         requires low { IsLow low }
         ensures takes { OnOk result (TakesConstant self.old self.new slot (number (wide low high))) }
-        ensures count { OnOk result (length self.new.slots.slots ≡ length self.old.slots.slots) }
+        ensures keeps { KeepsDesk self.old self.new }
     {
         match short_word(wide(low, high)) {
             Some(word) => {
@@ -115,7 +116,7 @@ impl Desk {
     pub fn put_constant(&mut self, slot: u32, word: u64, code: &Code) -> Result<(), NoMemory>
         requires { slot < length self.old.slots.slots }
         ensures takes { OnOk result (TakesConstant self.old self.new slot (constant code.now.smalls (decoded word))) }
-        ensures count { OnOk result (length self.new.slots.slots ≡ length self.old.slots.slots) }
+        ensures keeps { KeepsDesk self.old self.new }
     {
         match wide_in(word) {
             Some((at, high)) => self.put_number(slot, small_at(code, at), high),

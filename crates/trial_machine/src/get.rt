@@ -5,6 +5,7 @@ ghost use Rattle.word_states.specs.Pieces.{StartsAt};
 ghost use Rattle.trial_laws.specs.AtHand.{ArePieces, term_word};
 ghost use Rattle.trial_laws.specs.Laws.{IsFilled};
 ghost use Rattle.trial_machine.specs.Desks.{hand, Becomes};
+ghost use Rattle.trial_machine.specs.Keeping.{KeepsDesk};
 
 use crate::desk::Desk;
 
@@ -17,6 +18,7 @@ impl Desk {
         ensures filled { (binds : WordList) (reads waits : List ℕ)
             → IsFilled (addr - 1) (term_word (hand self.old binds reads waits) slot) self.old.pieces self.new.pieces }
         ensures becomes { Becomes self.old self.new (λ r. record r { pieces = self.new.pieces }) }
+        ensures keeps { KeepsDesk self.old self.new }
     {
         let word = self.slots.term(slot);
         self.pieces.fill(addr, word);

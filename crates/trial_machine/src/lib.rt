@@ -7,11 +7,14 @@ mod constant;
 mod desk;
 mod get;
 mod open;
+mod open_tuple;
 mod pieces;
 mod put;
 mod slots;
+mod term;
 mod unify;
 
 pub use desk::Desk;
 pub use pieces::Pieces;
 pub use slots::Slots;
+pub use term::is_term;

@@ -1,9 +1,10 @@
-//! The instructions that open a value: its parts go into slots.
-ghost use Rattle.std.specs.Prelude.{◌≡◌, ◌+◌, ◌<◌, ℕ, length, IfOk, OnOk, OnErr};
+//! The instruction that opens a pair: its parts go into slots.
+ghost use Rattle.std.specs.Prelude.{◌≡◌, ◌<◌, ℕ, length, IfOk, OnOk, OnErr};
 ghost use Rattle.heap_words.specs.Trails.{Holds, KeepsLoads, Says};
-ghost use Rattle.ro_unify.specs.Walks.{Tame};
+ghost use Rattle.ro_unify.specs.Walks.{IsSeen, Tame};
 ghost use Rattle.trial_laws.specs.Opening.{pair_at};
 ghost use Rattle.trial_machine.specs.Held.{held, held_term};
+ghost use Rattle.trial_machine.specs.Keeping.{KeepsArguments};
 ghost use Rattle.trial_machine.specs.Opened.{OpensPair};
 
 use crate::slots::Slots;
@@ -43,6 +44,7 @@ fn both<W: Words>(
     ensures one { IfOk result (λ r. Says (W.own words.new) trail.new.kept (λ m. m at ≡ r.0)) }
     ensures two { IfOk result (λ r. Says (W.own words.new) trail.new.kept (λ m. m to ≡ r.1)) }
     ensures leads { IfOk result (λ r. W.leads words.new r.0 × W.leads words.new r.1) }
+    ensures seen { OnOk result (IsSeen trail.new.kept (W.own words.new) at × IsSeen trail.new.kept (W.own words.new) to) }
 {
     let one = trail.word(words, at)?;
     let two = trail.word(words, to)?;
@@ -50,7 +52,8 @@ fn both<W: Words>(
 }
 
 impl Slots {
-    /// A slot's value, if it is a pair, gives its two parts to slots; the answer is whether it is one.
+    /// A slot's value, if it is a pair, gives its two parts to slots; the answer is whether it is one. After `NoMemory` all slots
+    /// hold what they held.
     pub fn open_pair<W: Words>(
         &mut self,
         trail: &mut Trail,
@@ -71,11 +74,12 @@ impl Slots {
         ensures binds { trail.new.binds ≡ trail.old.binds }
         ensures reads { trail.new.reads.items ≡ trail.old.reads.items }
         ensures opened { IfOk result (λ b. Says (W.own words.new) trail.new.kept
-            (λ m. OpensPair trail.old.binds m (held self.old) (held self.new) slot left right b)) }
+            (λ m. OpensPair trail.new.kept (W.own words.new) trail.old.binds m (held self.old) (held self.new) slot left right b)) }
+        ensures tame { OnOk result (Tame trail.new.binds trail.new.kept (W.own words.new) (W.addresses words.new)) }
         ensures lead { OnOk result (((i : ℕ) → W.leads words.old (held_term (held self.old) i))
             → (i : ℕ) → W.leads words.new (held_term (held self.new) i)) }
         ensures stays { OnErr result (held self.new ≡ held self.old) }
-        ensures count { length self.new.slots ≡ length self.old.slots }
+        ensures keeps { KeepsArguments self.old self.new }
     {
         let look = deref(trail, words, self.term(slot))?;
         match pair_in(look) {

@@ -1,10 +1,12 @@
 //! A try's own pieces: their words one after another, and the sizes of the pieces.
-ghost use Rattle.std.specs.Prelude.{◌≡◌, ◌++◌, ◌+◌, ◌-◌, ◌<◌, ◌≤◌, [], ◌∷◌, ℕ, length, IfOk, OnOk, MatchResult};
+ghost use Rattle.std.specs.Prelude.{◌≡◌, ◌++◌, ◌+◌, ◌-◌, ◌<◌, ◌≤◌, [], ◌∷◌, ℕ, length, take, IfOk, OnOk, MatchResult};
+ghost use Rattle.std.specs.List.{concat};
 ghost use Rattle.heap_words.specs.Trails.{word_at};
 ghost use Rattle.word_states.specs.Pieces.{rows, StartsAt};
 ghost use Rattle.trial_laws.specs.AtHand.{end_of, ArePieces};
 ghost use Rattle.trial_laws.specs.Laws.{IsFilled, places_for};
 ghost use Rattle.beside_words.specs.Besides.{own_at};
+ghost use Rattle.trial_machine.specs.Cuts.{cut, total};
 
 use fcp_model::NoMemory;
 use std::alloc::Global;
@@ -13,8 +15,8 @@ use std::marker::Model;
 /// Addresses from here on are those of a try's own pieces.
 pub(crate) const OWN: u32 = 4_000_000_000;
 
-/// So many words the pieces have at most, so that the address after them has 32 bits.
-const MOST: usize = 294_967_295;
+/// So many words the pieces have at most, and so many pieces there are at most: so addresses and numbers of pieces have 32 bits.
+const MOST: usize = 268_435_455;
 
 /// Pieces, in the order in which they were put. Contracts see the list of pieces.
 #[derive(Drop)]
@@ -31,7 +33,8 @@ impl Model for Pieces {
 
     ghost view = { λ p. cut p.words.items p.sizes.items };
 
-    ghost invariant = { λ p. (total p.sizes.items ≡ length p.words.items) × (length p.words.items ≤ 294967295) };
+    ghost invariant = { λ p. (total p.sizes.items ≡ length p.words.items) × (length p.words.items ≤ 268435455)
+        × (length p.sizes.items ≤ 268435455) };
 }
 
 /// Puts a size after the others. Where memory runs out, the sizes stay as they were.
@@ -52,6 +55,18 @@ pub(crate) fn put_words(words: &mut Vec<u64>, more: &[u64]) -> Result<(), NoMemo
         Ok(()) => Ok(()),
         Err(_) => Err(NoMemory),
     }
+}
+
+/// How many words the pieces behind the first `count` have, by the sizes of all.
+fn words_behind(sizes: &[u32], count: usize) -> usize
+    requires { total sizes.now ≤ 268435455 }
+    ensures { total (take count sizes.now) + result ≡ total sizes.now }
+{
+    let mut words = 0;
+    for i in count..sizes.len() {
+        words += sizes[i] as usize;
+    }
+    words
 }
 
 impl Pieces {
@@ -80,11 +95,38 @@ impl Pieces {
         OWN + self.words.as_slice().len() as u32
     }
 
-    /// The words of all pieces, the first of which is at 4,000,000,000.
+    /// The words of all pieces, the first of which is at 4,000,000,000. They are at most 268,435,455.
     pub fn words(&self) -> &[u64]
-        ensures { (a : ℕ) → own_at result.now a ≡ word_at (rows 4000000000 self.now) a }
+        ensures all { result.now ≡ concat self.now }
+        ensures few { length result.now ≤ 268435455 }
+        ensures placed { (a : ℕ) → own_at result.now a ≡ word_at (rows 4000000000 self.now) a }
     {
         self.words.as_slice()
+    }
+
+    /// The sizes of the pieces: by them the words of all are cut into pieces.
+    pub fn sizes(&self) -> &[u32]
+        ensures cuts { cut (concat self.now) result.now ≡ self.now }
+        ensures whole { total result.now ≡ length (concat self.now) }
+    {
+        self.sizes.as_slice()
+    }
+
+    /// How many pieces there are.
+    pub fn count(&self) -> u32
+        ensures { result ≡ length self.now }
+    {
+        self.sizes.as_slice().len() as u32
+    }
+
+    /// Drops the pieces behind the first `count`, and keeps the memory for others.
+    pub fn cut(&mut self, count: u32)
+        ensures { self.new ≡ take count self.old }
+    {
+        let behind = words_behind(self.sizes.as_slice(), count as usize);
+        let words = self.words.as_slice().len() - behind;
+        self.words.truncate(words);
+        self.sizes.truncate(count as usize);
     }
 
     /// Puts a piece after the others, and answers its address. Where memory or addresses run out, the pieces stay as they were.
@@ -95,6 +137,9 @@ impl Pieces {
         let count = self.words.as_slice().len();
         let size = piece.len();
         if size > MOST - count {
+            return Err(NoMemory);
+        }
+        if self.sizes.as_slice().len() >= MOST {
             return Err(NoMemory);
         }
         put_size(&mut self.sizes, size as u32)?;

@@ -6,6 +6,7 @@ ghost use Rattle.trial_laws.specs.AtHand.{term_word, end_of};
 ghost use Rattle.trial_laws.specs.Laws.{holding};
 ghost use Rattle.trial_laws.specs.NewPieces.{next_piece, with_piece, term_words};
 ghost use Rattle.trial_machine.specs.Desks.{Becomes};
+ghost use Rattle.trial_machine.specs.Keeping.{KeepsDesk};
 
 use crate::desk::Desk;
 use crate::slots::put_word;
@@ -30,7 +31,7 @@ impl Desk {
     pub fn put_word(&mut self, slot: u32, word: u64)
         requires { slot < length self.old.slots.slots }
         ensures becomes { Becomes self.old self.new (λ r. holding r slot word false) }
-        ensures count { length self.new.slots.slots ≡ length self.old.slots.slots }
+        ensures keeps { KeepsDesk self.old self.new }
     {
         self.slots.hold(slot, word, false);
     }
@@ -41,7 +42,7 @@ impl Desk {
         ensures becomes { OnOk result (Becomes self.old self.new (λ r. holding (with_piece r (term_word r left ∷ term_word r right ∷ []))
             slot (encoded (Cell.Cons (next_piece r))) false)) }
         ensures room { OnOk result (end_of 4000000000 self.old.pieces + 2 ≤ 4294967296) }
-        ensures count { OnOk result (length self.new.slots.slots ≡ length self.old.slots.slots) }
+        ensures keeps { KeepsDesk self.old self.new }
     {
         let pair = [self.slots.term(left), self.slots.term(right)];
         let at = self.pieces.put(&pair)?;
@@ -62,7 +63,7 @@ impl Desk {
             (with_piece r (encoded (Cell.Raw (66 + operator_code operator)) ∷ r.slots left ∷ r.slots right ∷ []))
             slot (encoded (Cell.Tuple (next_piece r))) true)) }
         ensures room { OnOk result (end_of 4000000000 self.old.pieces + 3 ≤ 4294967296) }
-        ensures count { OnOk result (length self.new.slots.slots ≡ length self.old.slots.slots) }
+        ensures keeps { KeepsDesk self.old self.new }
     {
         let count = encode(Cell::Raw(operation_count(operator)));
         let operation = [count, self.slots.content(left), self.slots.content(right)];
@@ -77,7 +78,7 @@ impl Desk {
         ensures becomes { OnOk result (Becomes self.old self.new
             (λ r. holding (with_piece r (low ∷ [])) slot (encoded (Cell.Wide (next_piece r) high)) false)) }
         ensures room { OnOk result (end_of 4000000000 self.old.pieces + 1 ≤ 4294967296) }
-        ensures count { OnOk result (length self.new.slots.slots ≡ length self.old.slots.slots) }
+        ensures keeps { KeepsDesk self.old self.new }
     {
         let piece = [low];
         let at = self.pieces.put(&piece)?;
@@ -92,7 +93,7 @@ impl Desk {
         ensures becomes { OnOk result (Becomes self.old self.new (λ r. holding
             (with_piece r (encoded (Cell.Raw parts) ∷ term_words r first parts)) slot (encoded (Cell.Tuple (next_piece r))) false)) }
         ensures room { OnOk result (end_of 4000000000 self.old.pieces + suc parts ≤ 4294967296) }
-        ensures count { OnOk result (length self.new.slots.slots ≡ length self.old.slots.slots) }
+        ensures keeps { KeepsDesk self.old self.new }
     {
         self.line.clear();
         put_word(&mut self.line, encode(Cell::Raw(parts)))?;

@@ -1,6 +1,7 @@
 //! The slots of a try. Each has the stamp of the try in which a word was put into it, so a new try resets them all at once.
 ghost use Rattle.std.specs.Prelude.{◌≡◌, ◌+◌, ◌<◌, ◌++◌, [], ◌∷◌, length, IfOk, OnOk, MatchResult, if◌then◌else◌, unwrap_or, slice_get};
 ghost use Rattle.trial_machine.specs.Held.{held, held_terms, held_with, held_anew, NoneLater};
+ghost use Rattle.trial_machine.specs.Keeping.{KeepsArguments};
 
 use fcp_model::NoMemory;
 use std::alloc::Global;
@@ -87,9 +88,11 @@ fn reset(slots: &mut [Slot])
 }
 
 impl Slots {
-    /// So many slots, and no arguments.
+    /// So many slots, and no arguments: each slot holds the empty list.
     pub fn make(alloc: Global, count: u32) -> Result<Slots, NoMemory>
-        ensures { IfOk result (λ s. length s.slots ≡ count) }
+        ensures count { IfOk result (λ s. length s.slots ≡ count) }
+        ensures held { IfOk result (λ s. held s ≡ held_anew []) }
+        ensures args { IfOk result (λ s. s.args ≡ []) }
     {
         let mut slots = Vec::new(alloc);
         for i in 0..count {
@@ -102,7 +105,7 @@ impl Slots {
         }
         Ok(Slots {
             slots,
-            stamp: 0,
+            stamp: 1,
             args: Vec::new(alloc),
         })
     }
@@ -161,7 +164,7 @@ impl Slots {
     pub fn hold(&mut self, slot: u32, word: u64, operation: bool)
         requires { slot < length self.old.slots }
         ensures held { held self.new ≡ held_with (held self.old) slot word operation }
-        ensures count { length self.new.slots ≡ length self.old.slots }
+        ensures keeps { KeepsArguments self.old self.new }
     {
         let stamp = self.stamp;
         self.slots[slot as usize] = Slot {
@@ -193,8 +196,7 @@ impl Slots {
     /// Resets all slots for a try: they hold the arguments.
     pub fn renew(&mut self)
         ensures held { held self.new ≡ held_anew self.old.args }
-        ensures args { self.new.args ≡ self.old.args }
-        ensures count { length self.new.slots ≡ length self.old.slots }
+        ensures keeps { KeepsArguments self.old self.new }
     {
         self.begin_stamps();
         self.stamp += 1;
@@ -203,8 +205,7 @@ impl Slots {
     /// Begins with the stamps anew, where the last one was reached.
     fn begin_stamps(&mut self)
         ensures stamp { self.new.stamp < u64.MAX }
-        ensures args { self.new.args ≡ self.old.args }
-        ensures count { length self.new.slots ≡ length self.old.slots }
+        ensures keeps { KeepsArguments self.old self.new }
     {
         if self.stamp == u64::MAX {
             reset(self.slots.as_mut_slice());

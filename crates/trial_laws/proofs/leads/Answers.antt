@@ -1,4 +1,4 @@
-use Rattle.trial_laws.proofs.LedPieces.{led_by_more, led_slot}
+use Rattle.trial_laws.proofs.LedPieces.{led_by_more, led_slot, led_left}
 use Rattle.trial_laws.proofs.LedLaws.{led_variable, led_pair, led_tuple, led_operation, led_wide, led_child, led_first, led_try}
 use Rattle.trial_laws.proofs.LedEnds.{led_unification, led_commit, terms_stand}
 use Rattle.trial_laws.proofs.leads.Goals as goal
@@ -32,6 +32,9 @@ returns-clause-first_ c = led_first
 
 pub returns-clause-begins : goal.returns-clause-begins
 returns-clause-begins c = led_try
+
+pub returns-clause-leaving : goal.returns-clause-leaving
+returns-clause-leaving c = led_left
 
 pub returns-clause-unification : goal.returns-clause-unification
 returns-clause-unification c = led_unification

@@ -1,9 +1,9 @@
-use Rattle.std.proofs.Common.{◌≡◌, ◌++◌, ◌∷◌, [], length, false, sym, ap, subst, arith}
+use Rattle.std.proofs.Common.{◌≡◌, ◌++◌, ◌∷◌, [], length, false, sym, ap, ◌∙◌, subst, arith}
 use Rattle.std.proofs.lemmas.List.{length-append}
 use Rattle.trial_machine.specs.declared.slots.Slot.{Slot}
 use Rattle.std.proofs.Common.{List}
-use Rattle.trial_machine.specs.Held.{NoneLater}
-use Rattle.trial_machine.proofs.SlotWords.{later_last}
+use Rattle.trial_machine.specs.Held.{held_by, NoneLater}
+use Rattle.trial_machine.proofs.SlotWords.{later_last, later_more, slots_anew}
 use Rattle.trial_machine.proofs.slots.Slots.make.Goals as goal
 
 pub loop-i-preserved : goal.loop-i-preserved
@@ -18,3 +18,10 @@ loop-i-preserved c =
       ),
       subst (λ (l : List Slot). NoneLater l 0) (sym put) (later_last c.loop-i.slots.items _ 0 c.loop-i.invariant.1 (omega arith)),
     )
+
+pub invariant_of-result : goal.invariant_of-result
+invariant_of-result c = later_more c.loop-i.slots.items 0 c.loop-i.invariant.1
+
+pub returns-clause-held : goal.returns-clause-held
+returns-clause-held c =
+    ap (held_by c.loop-i.slots.items 1) c.new.ensures.items ∙ slots_anew c.loop-i.slots.items [] 0 c.loop-i.invariant.1

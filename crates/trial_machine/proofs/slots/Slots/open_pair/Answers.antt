@@ -1,6 +1,7 @@
-use Rattle.std.proofs.Common.{◌+◌, ℕ, false, refl, sym, subst, inl, inr, arith}
+use Rattle.std.proofs.Common.{◌+◌, ◌∙◌, ℕ, false, refl, sym, subst, inl, inr, arith}
 use Rattle.heap_words.proofs.Keeps.{loaded_twice, still_says}
 use Rattle.ro_unify.specs.Value.{Values}
+use Rattle.ro_unify.proofs.Ending.{tame_later}
 use Rattle.ro_unify.proofs.Leads.{pair_known}
 use Rattle.trial_machine.specs.Held.{held}
 use Rattle.trial_machine.proofs.Opened.{pair_word, two_held, still_so}
@@ -40,7 +41,13 @@ returns-in_ok-parts-in-Some-clause-opened g c m i =
     (c.in_ok-parts-in-Some.ensures.two m i) in (
       c.in_ok-look.look,
       subst (λ (x : ℕ). Values c.args.trail.now.binds m false x c.in_ok-look.look) c.term.ensures value,
-      (c.in-Some.at, sym c.in-Some.ensures, parts),
+      record {
+        at = c.in-Some.at;
+        pair = sym c.in-Some.ensures;
+        takes = parts;
+        first_seen = c.in_ok-parts-in-Some.ensures.seen.0;
+        second_seen = c.in_ok-parts-in-Some.ensures.seen.1;
+      },
     )
 
 pub returns-in_ok-parts-in-Some-clause-lead : goal.returns-in_ok-parts-in-Some-clause-lead
@@ -50,3 +57,11 @@ returns-in_ok-parts-in-Some-clause-lead g c all =
     c.in_ok-parts-in-Some.ensures.leads.1
     (λ k. g.met.W.Words.laws.stays_leading _ _ _ c.both.ensures.between
     (g.met.W.Words.laws.stays_leading _ _ _ c.deref.ensures.between (all k)))
+
+pub returns-in_ok-parts-in-Some-clause-tame : goal.returns-in_ok-parts-in-Some-clause-tame
+returns-in_ok-parts-in-Some-clause-tame g c =
+    tame_later g.met.W.Words.laws (loaded_twice g.met.W.Words.laws c.in_ok-look.ensures.loaded c.in_ok-parts-in-Some.ensures.loaded)
+    (c.both.ensures.binds ∙ c.deref.ensures.binds) c.requires.tame
+
+pub returns-in-None-clause-tame : goal.returns-in-None-clause-tame
+returns-in-None-clause-tame g c = tame_later g.met.W.Words.laws c.in_ok-look.ensures.loaded c.deref.ensures.binds c.requires.tame

@@ -9,4 +9,4 @@ invariant_of-self c = later_more c.self.inside.slots.items c.self.inside.stamp c
 pub returns-clause-held : goal.returns-clause-held
 returns-clause-held c =
     slots_anew c.self.inside.slots.items c.self.inside.args.items c.self.inside.stamp c.self.invariant
-    ∙ ap held_anew (ap (λ (k : Kept). k.args) c.self.view_is ∙ c.begin_stamps.ensures.args)
+    ∙ ap held_anew (ap (λ (k : Kept). k.args) c.self.view_is ∙ c.begin_stamps.ensures.keeps.args)

@@ -1,0 +1,10 @@
+pub mod Steps
+pub mod SlotLaws
+pub mod NewPieces
+pub mod PutLaws
+pub mod Filling
+pub mod Starting
+pub mod KeptMore
+pub mod OpenedValues
+pub mod Unifications
+pub mod Cuts

@@ -1,0 +1,4 @@
+pub mod Safe
+pub mod Stored
+pub mod Puts
+pub mod Loads

@@ -1,0 +1,4 @@
+pub mod Operations
+pub mod Listings
+pub mod Walking
+pub mod Stores
