@@ -1,0 +1,11 @@
+pub mod Lists
+pub mod Agreeing
+pub mod Stores
+pub mod Handing
+pub mod Forms
+pub mod OwnPieces
+pub mod Leading
+pub mod Ranks
+pub mod Calling
+pub mod Joined
+pub mod Commits

@@ -1,0 +1,4 @@
+pub mod Calls
+pub mod Agreement
+pub mod Starts
+pub mod Ends
