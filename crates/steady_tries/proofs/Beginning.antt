@@ -31,10 +31,6 @@ places_long : (n : ℕ) → length (places_for n) ≡ n
 places_long zero = refl
 places_long (suc n) = ap suc (places_long n)
 
-places_many : (n b : ℕ) → length (place_words b (places_for n)) ≡ n
-places_many zero b = refl
-places_many (suc n) b = ap suc (places_many n (b + 2))
-
 -- what a try begins with, by what stands for the state before it
 same_hand : (r h : AtHand) (k next n : ℕ) (words : ℕ → ℕ) (P : AtHand → Type 0) → h.behind ≡ r.behind → h.waits ≡ r.waits
     → P (begun h k next n words) → P (begun r k next n words)
@@ -83,7 +79,7 @@ begin_steady c kept at r k next course h e few = record {
   few = omega (arith, places_long (c.vars k));
   fresh = λ n. (fresh_here c.ops at no_tops 0 (Try k next) e h.fresh n).0;
   next_fresh = λ n. (fresh_here c.ops at no_tops 0 (Try k next) e h.fresh n).1 no_tops 0;
-  places = places_many (c.vars k) 4000000000;
+  places = refl;
   follows = λ w vs bound g t. follows_anew c kept at r k next course e w vs bound g t (h.follows w vs bound g t);
 }
   where

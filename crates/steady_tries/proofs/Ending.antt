@@ -28,6 +28,7 @@ use Rattle.trial_laws.proofs.WaitLaws.{fail_says, wait_says}
 use Rattle.steady_tries.specs.Steady.{arguments_of}
 use Rattle.steady_tries.specs.Ends.{SteadyCommit, BetweenFail, BetweenWait}
 use Rattle.steady_tries.proofs.FinalPieces.{not_nine}
+use Rattle.steady_tries.proofs.Places.{places_many}
 use Rattle.steady_tries.proofs.Going.{the_store}
 
 -- what the code gives from a position on is what the clauses decide
@@ -97,7 +98,8 @@ commit_steady c kept at n r course h m program e vars few w vs bound g t =
     let store = the_store kept c.process w vs bound g t in
     let source = on_way m bound g c.ops (arguments_of g) c.start at untried f.state (program.source w vs bound g t) f.gives in
     let same : c.vars r.clause ≡ vars_of (clause_used m g r.clause) = program.vars w vs bound g t r.clause in
-    commit_says w vs bound c.ops (arguments_of g) at r f.state store h.safe.led.pieces f.stands m g e source (h.places ∙ same)
+    commit_says w vs bound c.ops (arguments_of g) at r f.state store h.safe.led.pieces f.stands m g e source
+    (ap length h.places ∙ (places_many (c.vars r.clause) 4000000000 ∙ same))
     (omega (arith, vars, same), few_goals m w vs bound g c.ops (arguments_of g) at r f.state f.stands h.safe.led.pieces e source few)
 
 no_pieces_formed : (ps : List (List ℕ)) → ps ≡ [] → ArePieces ps

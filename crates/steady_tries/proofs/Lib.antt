@@ -1,5 +1,6 @@
 pub mod Resting
 pub mod Going
+pub mod Places
 pub mod Beginning
 pub mod FinalPieces
 pub mod Putting

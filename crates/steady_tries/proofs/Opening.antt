@@ -77,7 +77,7 @@ tuple_opened_steady c kept at n r course h i first parts put xs e small p terms 
     (rebased c kept at n r (suc at) (holding_all r first xs) (all_topped h.tops first parts (h.tops i)) h.released course h
     opened (λ m. (fresh_here c.ops at h.tops h.released (GetTuple i first parts put) e h.fresh m).0)
     (held_rest r first xs (λ z. z.next ≡ r.next) (λ s o. refl)) (held_rest r first xs (λ z. z.clause ≡ r.clause) (λ s o. refl))
-    (held_rest r first xs (λ z. length (place_words 4000000000 z.pieces) ≡ length (place_words 4000000000 r.pieces)) (λ s o. refl))
+    (held_rest r first xs (λ z. place_words 4000000000 z.pieces ≡ place_words 4000000000 r.pieces) (λ s o. refl))
     (λ w vs bound g t f store. let q = p (memory_of (with_own r.pieces w)) (tried_agrees kept c.process r w vs bound g h.safe.below t) in
     subst (λ z. Leads w vs bound c.ops (arguments_of g) at f.state (suc at) (holding_all r first z)) q.5
     (tuple_opens w vs bound c.ops (arguments_of g) at r f.state store h.safe.led.pieces f.stands i first parts put q.1 q.0 e q.2 q.3)))

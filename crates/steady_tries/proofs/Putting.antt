@@ -83,7 +83,7 @@ piece_steady c kept at n r p i x o h τ final no_place no_process safe fresh lea
   few = omega (arith, h.few, length-append r.pieces (p ∷ []));
   fresh = fresh;
   next_fresh = h.next_fresh;
-  places = ap length (places_left 4000000000 r.pieces p no_place) ∙ h.places;
+  places = places_left 4000000000 r.pieces p no_place ∙ h.places;
   follows = λ w vs bound g t. let f = h.follows w vs bound g t in let l = leads w vs bound g t f (the_store kept c.process w vs bound g t) in record {
     state = record f.state { slots = l.slots };
     stands = l.stands;

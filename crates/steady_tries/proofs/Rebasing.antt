@@ -11,6 +11,7 @@ use Rattle.word_states.specs.Pieces.{place_words}
 use Rattle.word_states.specs.Trials.{IsTried}
 use Rattle.machine_code.specs.Fresh.{Tops, no_tops, IsFresh}
 use Rattle.trial_laws.specs.AtHand.{AtHand, IsStore, Leads}
+use Rattle.trial_laws.specs.Laws.{places_for}
 use Rattle.safe_tries.specs.Safe.{IsSafe}
 use Rattle.steady_tries.specs.Steady.{Course, arguments_of, IsCourse, Follows, IsSteady}
 use Rattle.steady_tries.proofs.Resting.{based_puts, safe_based, stands_based}
@@ -23,7 +24,7 @@ LeadsAnywhere c kept at n r at' r' = (w : Words) (vs : Addresses) (bound : Bindi
 
 pub rebased : (c : Course) (kept : WordList) (at n : ℕ) (r : AtHand) (at' : ℕ) (r' : AtHand) (τ : Tops) (q : ℕ)
     → IsCourse c kept → IsSteady c kept at n r → IsSafe kept r' τ q → IsFresh c.ops at' τ q → r'.next ≡ r.next → r'.clause ≡ r.clause
-    → length (place_words 4000000000 r'.pieces) ≡ length (place_words 4000000000 r.pieces) → LeadsAnywhere c kept at n r at' r'
+    → place_words 4000000000 r'.pieces ≡ place_words 4000000000 r.pieces → LeadsAnywhere c kept at n r at' r'
     → IsSteady c kept at' (length r'.pieces) r'
 rebased c kept at n r at' r' τ q course h safe fresh same_next same_clause same_places leads = record {
   tops = τ;
@@ -34,7 +35,7 @@ rebased c kept at n r at' r' τ q course h safe fresh same_next same_clause same
   few = omega arith;
   fresh = fresh;
   next_fresh = subst (λ m. IsFresh c.ops m no_tops 0) (sym same_next) h.next_fresh;
-  places = same_places ∙ (h.places ∙ ap c.vars (sym same_clause));
+  places = same_places ∙ (h.places ∙ ap (λ k. place_words 4000000000 (places_for (c.vars k))) (sym same_clause));
   follows = λ w vs bound g t.
       let f = h.follows w vs bound g t in
       let store = the_store kept c.process w vs bound g t in

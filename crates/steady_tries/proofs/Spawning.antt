@@ -49,7 +49,7 @@ spawn_steady c kept at n r course h p i parts e few count room =
     (rebased c kept at n r (suc at) (with_piece r (child_piece r p i parts)) h.tops h.released course h
     (safe_child kept r h.tops h.released h.safe p i parts few count room)
     (fresh_here c.ops at h.tops h.released (Spawn p i parts) e h.fresh) refl refl
-    (ap length (places_left 4000000000 r.pieces (child_piece r p i parts) (no_place r p i parts)))
+    (places_left 4000000000 r.pieces (child_piece r p i parts) (no_place r p i parts))
     (λ w vs bound g t f store. spawn_leads w vs bound c.ops (arguments_of g) at r f.state store h.safe.led.pieces f.stands p i parts e few
     count room))
 
@@ -57,7 +57,7 @@ pub first_steady : SteadyFirst
 first_steady c kept at n r course h i k s e l = (
   law.1,
   λ ps filled. rebased c kept at n r (suc at) (record r { pieces = ps }) h.tops k course h (law.2 ps filled)
-      (λ m. (fresh_here c.ops at h.tops h.released (GetFirst i k) e h.fresh m).2) refl refl (ap length filled.same_places)
+      (λ m. (fresh_here c.ops at h.tops h.released (GetFirst i k) e h.fresh m).2) refl refl filled.same_places
       (λ w vs bound g t f store. first_leads w vs bound c.ops (arguments_of g) at r f.state store h.safe.led.pieces f.stands i k s ps e l
       law.0 filled),
 )

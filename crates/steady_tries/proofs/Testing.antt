@@ -91,7 +91,7 @@ pub holds_steady : SteadyHolds
 holds_steady c kept at n r course h k x y rs e sides t =
     subst (λ m. IsSteady c kept (suc at) m (record (base_of c n r) { reads = rs })) (length-take-le n r.pieces h.few)
     (rebased c kept at n r (suc at) (record (base_of c n r) { reads = rs }) no_tops h.released course h safe
-    (fresh_here c.ops at h.tops h.released (Test k x y) e h.fresh) refl refl (ap length (sym h.puts.same_places))
+    (fresh_here c.ops at h.tops h.released (Test k x y) e h.fresh) refl refl (sym h.puts.same_places)
     (λ w vs bound g u f store.
     let d = tested_so w vs bound r f.state store h.safe.led.pieces f.stands k x y Holds rs sides
     (t.tested (memory_of (with_own r.pieces w)) (tried_agrees kept c.process r w vs bound g h.safe.below u)) in

@@ -68,8 +68,8 @@ pub record IsSteady (c : Course) (kept : WordList) (at n : ℕ) (r : AtHand) : T
   -- the first occurrences to come are fresh, in the tries to come too
   pub fresh : IsFresh c.ops at tops released
   pub next_fresh : IsFresh c.ops r.next no_tops 0
-  -- the clause's variables have their places
-  pub places : length (place_words 4000000000 r.pieces) ≡ c.vars r.clause
+  -- the clause's variables have their places, one after another from the first own word on
+  pub places : place_words 4000000000 r.pieces ≡ place_words 4000000000 (laws.places_for (c.vars r.clause))
   -- wherever words have what was kept it stands for a try
   pub follows : Wherever c kept (λ w vs bound g. Follows c w vs bound (arguments_of g) at n r)
 

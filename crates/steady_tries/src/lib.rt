@@ -3,6 +3,7 @@
 #![tactic(auto)]
 
 ghost use Rattle.steady_tries.specs.Begins.{SteadyStart, SteadyTry, CourseMore, SteadyMore};
+ghost use Rattle.steady_tries.specs.Places.{PlaceListed};
 ghost use Rattle.steady_tries.specs.Steps.{SteadyJump, SteadyOtherwise, SteadyVariable, SteadyConstant, SteadyWide, SteadyPair};
 ghost use Rattle.steady_tries.specs.Steps.{SteadyTuple, SteadyOperation, SteadySpawn, SteadyFirst};
 ghost use Rattle.steady_tries.specs.Opens.{SteadyPairOpened, NoPairStands, SteadyNoPair, SteadyTupleOpened, NoTupleStands};
@@ -35,6 +36,7 @@ pub fn puts()
     ensures operation { SteadyOperation }
     ensures spawn { SteadySpawn }
     ensures first_ { SteadyFirst }
+    ensures place { PlaceListed }
 {}
 
 /// A value is opened, or goes on to where the term is put.

@@ -1,5 +1,6 @@
 use Rattle.steady_tries.proofs.Slots.{variable_steady, constant_steady, wide_steady, pair_steady, tuple_steady, operation_steady}
 use Rattle.steady_tries.proofs.Spawning.{spawn_steady, first_steady}
+use Rattle.steady_tries.proofs.Places.{place_steady}
 use Rattle.steady_tries.proofs.puts.Goals as goal
 
 pub returns-clause-variable : goal.returns-clause-variable
@@ -25,3 +26,6 @@ returns-clause-spawn c = spawn_steady
 
 pub returns-clause-first_ : goal.returns-clause-first_
 returns-clause-first_ c = first_steady
+
+pub returns-clause-place : goal.returns-clause-place
+returns-clause-place c = place_steady

@@ -1,6 +1,0 @@
-use Rattle.std.proofs.Common.{◌≡◌, ◌+◌, take}
-use Rattle.trial_machine.specs.Cuts.{total}
-use Rattle.trial_machine.proofs.pieces.words_behind.Given as goal
-
-abbrev pub invariant-loop-i : goal.invariant-loop-i
-invariant-loop-i l = total (take l.count l.sizes) + l.words ≡ total (take l.i l.sizes)

@@ -1,6 +1,0 @@
-use Rattle.std.proofs.Common.{◌≡◌, length}
-use Rattle.trial_machine.specs.Held.{NoneLater}
-use Rattle.trial_machine.proofs.slots.Slots.make.Given as goal
-
-abbrev pub invariant-loop-i : goal.invariant-loop-i
-invariant-loop-i l = (length l.slots.items ≡ l.i) × NoneLater l.slots.items 0

@@ -1,6 +1,0 @@
-use Rattle.std.proofs.Common.{false, arith}
-use Rattle.trial_machine.proofs.SlotWords.{reset_one}
-use Rattle.trial_machine.proofs.slots.reset.Goals as goal
-
-pub loop-i-preserved : goal.loop-i-preserved
-loop-i-preserved c = reset_one c.loop-i.slots c.loop-i.i 6 false (omega arith) c.loop-i.invariant

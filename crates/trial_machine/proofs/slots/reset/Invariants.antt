@@ -1,6 +1,0 @@
-use Rattle.std.proofs.Common.{take}
-use Rattle.trial_machine.specs.Held.{NoneLater}
-use Rattle.trial_machine.proofs.slots.reset.Given as goal
-
-abbrev pub invariant-loop-i : goal.invariant-loop-i
-invariant-loop-i l = NoneLater (take l.i l.slots) 0
