@@ -10,6 +10,8 @@ mod page_layouts;
 #[cfg(test)]
 mod slots;
 #[cfg(test)]
+mod stored;
+#[cfg(test)]
 mod unification;
 #[cfg(test)]
 mod value_texts;
