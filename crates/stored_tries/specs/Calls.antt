@@ -62,8 +62,14 @@ module _ {S : Type 0} (addresses : S → ℕ) (is_sound : S → Type 0) (knows :
         → IsStored addresses is_sound was_had shown later kept b.words.now → AreOnce kept → IsSafe kept r τ released
         → AreOwn r.pieces b.own.now → KeepsBeside kept r.binds b kept' binds' b' → IsLoaded kept r b.words.now kept' b'.words.now
 
-    -- and after loads from the store alone, where nothing is put or bound yet
+    -- and after loads from the store alone, where the try has no pieces
     abbrev pub AfterLoads : Type 0
-    AfterLoads = (kept : WordList) (r : AtHand) (w w' : S) (kept' binds' : WordList)
+    AfterLoads = (kept : WordList) (r : AtHand) (τ : Tops) (released : ℕ) (w w' : S) (kept' : WordList)
+        → IsStored addresses is_sound was_had shown later kept w → AreOnce kept → IsSafe kept r τ released → r.pieces ≡ []
+        → KeepsLoads is_sound was_had leads later gave kept r.binds w kept' r.binds w' → IsLoaded kept r w kept' w'
+
+    -- or nothing is put or bound yet
+    abbrev pub AfterFirstLoads : Type 0
+    AfterFirstLoads = (kept : WordList) (r : AtHand) (w w' : S) (kept' binds' : WordList)
         → IsStored addresses is_sound was_had shown later kept w → AreOnce kept → r.pieces ≡ [] → r.binds ≡ []
         → KeepsLoads is_sound was_had leads later gave kept r.binds w kept' binds' w' → IsLoaded kept r w kept' w'

@@ -2,7 +2,7 @@
 #![tactic(auto)]
 
 ghost use Rattle.stored_tries.specs.Agreement.{TriedAgrees, SeenAgrees};
-ghost use Rattle.stored_tries.specs.Calls.{StandsBeside, AfterBeside, AfterLoads};
+ghost use Rattle.stored_tries.specs.Calls.{StandsBeside, AfterBeside, AfterLoads, AfterFirstLoads};
 ghost use Rattle.stored_tries.specs.Ends.{SafeCommit, SafeWait};
 ghost use Rattle.stored_tries.specs.Starts.{SafeStart};
 
@@ -13,10 +13,11 @@ pub fn stands_beside<W: Words>(_words: &W)
     ensures { StandsBeside W.addresses W.sound W.knows W.had W.leads W.shown W.later }
 {}
 
-/// After such a call, and after loads before a try, more was kept, and what was safe is safe. This does nothing.
+/// After such a call, and after loads from the store alone, more was kept, and what was safe is safe. This does nothing.
 pub fn after_beside<W: Words>(_words: &W)
     ensures beside { AfterBeside W.addresses W.sound W.knows W.had W.leads W.shown W.later W.gave }
     ensures alone { AfterLoads W.addresses W.sound W.knows W.had W.leads W.shown W.later W.gave }
+    ensures first_ { AfterFirstLoads W.addresses W.sound W.knows W.had W.leads W.shown W.later W.gave }
 {}
 
 /// What is at hand when a trial starts is safe. This does nothing.
