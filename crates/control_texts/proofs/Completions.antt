@@ -123,7 +123,8 @@ module _ (w : Bytes) where
   resume-else false act p e = abort-else (bytes_eq w (codes "abort")) act refl e
 
   suspend-else : (b : Bool) (act : Act) → bytes_eq w (codes "suspend") ≡ b
-      → (if b then Some Suspend else (if bytes_eq w (codes "resume") then Some Resume else (if bytes_eq w (codes "abort") then Some Abort else None))) ≡ Some act
+      → (if b then Some Suspend else (if bytes_eq w (codes "resume") then Some Resume
+          else (if bytes_eq w (codes "abort") then Some Abort else None))) ≡ Some act
       → w ≡ act_word act
   suspend-else true act p e = let a : Suspend ≡ act = cc in subst (λ a. w ≡ act_word a) a (is_word w (codes "suspend") p)
   suspend-else false act p e = resume-else (bytes_eq w (codes "resume")) act refl e

@@ -309,8 +309,10 @@ no-items (i ∷ is) cs e c = absurd cc
 
 ends-at : (e : Expected) (count moves : ℕ) (mode : Mode) (cs : List Control) → RestAt e count moves mode [] cs
     → (is_end e ≡ true) × (cs ≡ [])
-ends-at expected.After count moves mode cs h = let e : [] ≡ codes "after" ∷ h.item.digits ∷ act_word h.item.act ∷ more_words h.items = h.spelled in absurd cc
-ends-at expected.Number count moves mode cs h = let e : [] ≡ h.item.digits ∷ act_word h.item.act ∷ more_words h.items = h.spelled in absurd cc
+ends-at expected.After count moves mode cs h =
+    let e : [] ≡ codes "after" ∷ h.item.digits ∷ act_word h.item.act ∷ more_words h.items = h.spelled in absurd cc
+ends-at expected.Number count moves mode cs h = let e : [] ≡ h.item.digits ∷ act_word h.item.act ∷ more_words h.items =
+    h.spelled in absurd cc
 ends-at (expected.Act n) count moves mode cs h = let e : [] ≡ act_word h.act ∷ more_words h.items = h.spelled in absurd cc
 ends-at expected.Semicolon count moves mode cs h = (refl, no-items h.items cs h.spelled h.controls_are)
 

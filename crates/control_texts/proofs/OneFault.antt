@@ -45,7 +45,8 @@ meet (x ∷ xs) (y ∷ ys) w v rest rest' e =
     one-further x y xs ys w v d (meet xs ys w v rest rest' t)
 
 -- behind a fault of a word nothing begins some words that ask for something
-no-later : (front zs : List Piece) (w : Piece) → (Begin (words_of front ++ w.bytes ∷ []) → ⊥) → Begin (words_of ((front ++ w ∷ []) ++ zs)) → ⊥
+no-later : (front zs : List Piece) (w : Piece) → (Begin (words_of front ++ w.bytes ∷ []) → ⊥)
+    → Begin (words_of ((front ++ w ∷ []) ++ zs)) → ⊥
 no-later front zs w breaks b =
     breaks (begin-front (words_of front ++ w.bytes ∷ []) (words_of zs) (subst Begin (words-past front zs w) b))
 
@@ -75,5 +76,6 @@ one-fault text i j (of_end f) (of_end g) = f.place ∙ sym g.place
 
 pub read-or-fault : NoTextIsReadWithAFault
 read-or-fault text controls at h (of_word f) =
-    no-whole text at f (asked-begin (words_of (pieces text)) controls h (words_of (pieces text)) [] (sym (append-nil (words_of (pieces text)))))
+    no-whole text at f
+    (asked-begin (words_of (pieces text)) controls h (words_of (pieces text)) [] (sym (append-nil (words_of (pieces text)))))
 read-or-fault text controls at h (of_end f) = f.open_end controls h

@@ -19,7 +19,8 @@ use Rattle.control_texts.proofs.Following.{Follow, follows, IsSound, Precede, pr
 
 -- ---- words that ask for something may follow where a reading begins
 
-asks-items : (items : List Item) (words : List Bytes) (controls : List Control) → words ≡ item_words items → 1 ≤ length items → length items ≤ 64
+asks-items : (items : List Item) (words : List Bytes) (controls : List Control) → words ≡ item_words items → 1 ≤ length items
+    → length items ≤ 64
     → list_all has_number items ≡ true
     → controls ≡ map control_of items
     → AreLawfulFrom 0 is_open (map control_of items)
@@ -117,7 +118,8 @@ stops words r controls w h e b =
     let j = h.only (w ∷ b.rest) b.controls whole in
     never-taken r w b.rest j.0 e (follows r w b.rest j.0 j.2)
 
-at-end : (words : List Bytes) (r : Reading) (controls : List Control) → Stands words r controls → is_whole r ≡ true → AskFor words controls
+at-end : (words : List Bytes) (r : Reading) (controls : List Control) → Stands words r controls → is_whole r ≡ true
+    → AskFor words controls
 at-end words r controls h e =
     rest-asks words controls
     (subst (λ x. Rest begin words x) (append-nil controls)

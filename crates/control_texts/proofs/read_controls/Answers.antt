@@ -22,16 +22,19 @@ loop-start-preserved c =
 
 pub returns-then-is_whole-clause-reads : goal.returns-then-is_whole-clause-reads
 returns-then-is_whole-clause-reads c =
-    whole-text c.args.text.now c.loop-start.rest.now c.loop-start.reading c.loop-start.controls c.loop-start.invariant c.in_default.ensures
+    whole-text c.args.text.now c.loop-start.rest.now c.loop-start.reading c.loop-start.controls
+    c.loop-start.invariant c.in_default.ensures
     (sym c.is_whole.ensures ∙ c.if-is_whole.true)
 
 pub returns-then-is_whole-clause-lawful : goal.returns-then-is_whole-clause-lawful
 returns-then-is_whole-clause-lawful c =
-    (whole-text c.args.text.now c.loop-start.rest.now c.loop-start.reading c.loop-start.controls c.loop-start.invariant c.in_default.ensures
+    (whole-text c.args.text.now c.loop-start.rest.now c.loop-start.reading c.loop-start.controls
+    c.loop-start.invariant c.in_default.ensures
     (sym c.is_whole.ensures ∙ c.if-is_whole.true)).lawful
 
 pub returns-else-is_whole-clause-reads : goal.returns-else-is_whole-clause-reads
 returns-else-is_whole-clause-reads c =
     subst (λ x. IsFaultAt c.args.text.now (length x)) (sym c.as_bytes-bytes.ensures.value)
-    (end-fault c.args.text.now c.loop-start.rest.now c.loop-start.reading c.loop-start.controls c.loop-start.invariant c.in_default.ensures
+    (end-fault c.args.text.now c.loop-start.rest.now c.loop-start.reading c.loop-start.controls
+    c.loop-start.invariant c.in_default.ensures
     (sym c.is_whole.ensures ∙ c.if-is_whole.false))
