@@ -18,6 +18,7 @@ use Rattle.command_words.specs.Givens.{nothing, order_of, Answers, Ends}
 use Rattle.command_words.specs.Laws.{WordsHaveOneReading}
 use Rattle.command_words.specs.Parts.{behind_part, TakesPart, IsRunBehind, IsOrderBehind, ReadsBy, IsOrderOf}
 use Rattle.command_words.specs.Readings.{is_proper, is_plain, option_word, Part, positional, apart, joined, words_of, positionals, AreRunParts, IsRun, IsShow, IsReading, HasNoReading, ReadsWords, has_words}
+use Rattle.command_words.proofs.Spellings.{two-parts, two-whole}
 use Rattle.command_words.proofs.Completions.{given, Rest, Goes, goes, Comes, comes, Pair, rest-ends, ends-rest}
 
 -- ---- the words behind `run`
@@ -213,14 +214,6 @@ other-command command others a b (Run file goal limits) h = a h.0
 other-command command others a b (Show file) h = b h.0
 
 -- ---- the words of what was read
-
-two-parts : (a b : Bool) → (a && b) ≡ true → (a ≡ true) × (b ≡ true)
-two-parts true b e = (refl, e)
-two-parts false b e = cc
-
-two-whole : (a b : Bool) → a ≡ true → b ≡ true → (a && b) ≡ true
-two-whole true b p q = q
-two-whole false b p q = cc
 
 -- where words are proper, the positional ones are
 positionals-proper : (ps : List Part) → list_all is_proper (words_of ps) ≡ true → list_all is_proper (positionals ps) ≡ true

@@ -20,7 +20,7 @@ use Rattle.command_words.specs.Givens.{nothing, with_word, newly, with_value, li
 use Rattle.command_words.specs.Kinds.{kind_of}
 use Rattle.command_words.specs.Parts.{behind_word, behind_value, behind_option, behind_kind, behind_part}
 use Rattle.command_words.specs.Readings.{is_plain, option_word, Part, positional, apart, joined, words_of, is_plain_part, positionals, values_of, Gives, AreRunParts}
-use Rattle.command_words.proofs.Spellings.{plain-kind, option-kind, joined-kind, joined-value, value_at, Spelled, spelled-kind}
+use Rattle.command_words.proofs.Spellings.{two-parts, two-whole, plain-kind, option-kind, joined-kind, joined-value, value_at, Spelled, spelled-kind}
 
 -- the positional words so far
 abbrev pub words_in : Plain → List Bytes
@@ -79,14 +79,6 @@ one-more-word : (p : Plain) (w : Bytes) (ws : List Bytes) (file goal : Bytes) �
 one-more-word plain.Nothing w ws file goal e = (plain.File w, refl, e)
 one-more-word (plain.File f) w ws file goal e = (plain.FileAndGoal f w, refl, e)
 one-more-word (plain.FileAndGoal f k) w ws file goal e = absurd cc
-
-two-parts : (a b : Bool) → (a && b) ≡ true → (a ≡ true) × (b ≡ true)
-two-parts true b e = (refl, e)
-two-parts false b e = cc
-
-two-whole : (a b : Bool) → a ≡ true → b ≡ true → (a && b) ≡ true
-two-whole true b p q = q
-two-whole false b p q = cc
 
 abbrev limits_with : ℕ → ℕ → ℕ → Limits
 limits_with a b c = record { commits = a; moves = b; cells = c }

@@ -1,6 +1,6 @@
 -- What words are by their form.
 use Rattle.std.proofs.Common.{◌≡◌, ℕ, zero, suc, ◌+◌, ◌-◌, ◌<◌, ◌≤◌, Bool, true, false, List, [], ◌∷◌, ◌++◌, length, take, drop, Option, Some, None, ap, sym, ◌∙◌, subst, refl, arith, ◌⊎◌, inl, inr}
-use Rattle.std.specs.Prelude.{◌==◌, not, cond, nat_lt, codes, if◌then◌else◌}
+use Rattle.std.specs.Prelude.{◌==◌, ◌&&◌, not, cond, nat_lt, codes, if◌then◌else◌}
 use Rattle.std.specs.List.{position, prefix_len}
 use Rattle.std.specs.Str.{bytes_eq}
 use Rattle.std.proofs.lemmas.Bool.{ltb-true, lt-ltb, eqb-true}
@@ -32,6 +32,14 @@ cond-no false x y e = refl
 pub true-or-false : (b : Bool) → (b ≡ true) ⊎ (b ≡ false)
 true-or-false true = inl refl
 true-or-false false = inr refl
+
+pub two-parts : (a b : Bool) → (a && b) ≡ true → (a ≡ true) × (b ≡ true)
+two-parts true b e = (refl, e)
+two-parts false b e = cc
+
+pub two-whole : (a b : Bool) → a ≡ true → b ≡ true → (a && b) ≡ true
+two-whole true b p q = q
+two-whole false b p q = cc
 
 -- ---- names of options
 
