@@ -147,38 +147,42 @@ words-end all rest g r h e ends = ended-as all g r (subst (λ x. HasTaken all x 
 -- ---- all words
 
 pub improper : (words : List Bytes) → list_all is_proper words ≡ false → HasNoReading words
-improper words e (Run file goal limits) r = let bad : true ≡ false = sym r.proper ∙ e in cc
-improper words e (Show file) r = let bad : true ≡ false = sym r.proper ∙ e in cc
+improper words e (Run file goal limits) r = let bad : true ≡ false = sym r.asks.proper ∙ e in cc
+improper words e (Show file) r = let bad : true ≡ false = sym r.asks.proper ∙ e in cc
 
 no-words : HasNoReading []
-no-words (Run file goal limits) r = let bad : [] ≡ codes "run" ∷ r.behind = r.command in cc
-no-words (Show file) r = let bad : [] ≡ codes "show" ∷ file ∷ [] = r.command in cc
+no-words (Run file goal limits) r = let bad : [] ≡ codes "run" ∷ r.asks.behind = r.asks.command in cc
+no-words (Show file) r = let bad : [] ≡ codes "show" ∷ file ∷ [] = r.asks.command in cc
 
 order-reading : (command : Bytes) (others : List Bytes) → list_all is_proper (command ∷ others) ≡ true → (o : Order)
     → IsOrderOf command others o
     → IsReading (command ∷ others) o
 order-reading command others proper (Run file goal limits) h = record {
-  behind = others;
-  command = ap (λ x. x ∷ others) h.0;
-  proper = proper;
-  parts = h.1.parts;
-  are_parts = h.1.are_parts;
+  asks = record {
+    behind = others;
+    command = ap (λ x. x ∷ others) h.0;
+    proper = proper;
+    parts = h.1.parts;
+    are_parts = h.1.are_parts;
+  };
 }
 order-reading command others proper (Show file) h = record {
-  command = ap (λ x. x ∷ others) h.0 ∙ ap (λ x. codes "show" ∷ x) h.1;
-  proper = proper;
-  plain = h.2;
+  asks = record {
+    command = ap (λ x. x ∷ others) h.0 ∙ ap (λ x. codes "show" ∷ x) h.1;
+    proper = proper;
+    plain = h.2;
+  };
 }
 
 reading-order : (command : Bytes) (others : List Bytes) (o : Order) → IsReading (command ∷ others) o → IsOrderOf command others o
 reading-order command others (Run file goal limits) r =
-    let e : command ∷ others ≡ codes "run" ∷ r.behind = r.command in
+    let e : command ∷ others ≡ codes "run" ∷ r.asks.behind = r.asks.command in
     let a : command ≡ codes "run" = cc in
-    let b : r.behind ≡ others = cc in
-    (a, record { parts = r.parts; are_parts = subst (λ x. AreRunParts x r.parts file goal limits) b r.are_parts })
+    let b : r.asks.behind ≡ others = cc in
+    (a, record { parts = r.asks.parts; are_parts = subst (λ x. AreRunParts x r.asks.parts file goal limits) b r.asks.are_parts })
 reading-order command others (Show file) r =
-    let e : command ∷ others ≡ codes "show" ∷ file ∷ [] = r.command in
-    (cc, cc, r.plain)
+    let e : command ∷ others ≡ codes "show" ∷ file ∷ [] = r.asks.command in
+    (cc, cc, r.asks.plain)
 
 -- what is read behind a command is read of all words
 pub read-as : (command : Bytes) (others : List Bytes) (r : Result Order WordFault) → list_all is_proper (command ∷ others) ≡ true
@@ -231,16 +235,18 @@ positionals-proper (joined o v ∷ ps) e =
 
 pub proper-words : (words : List Bytes) (o : Order) → IsReading words o → has_words o ≡ true
 proper-words words (Run file goal limits) r =
-    let all : list_all is_proper (codes "run" ∷ r.behind) ≡ true = subst (λ x. list_all is_proper x ≡ true) r.command r.proper in
-    let k = two-parts (is_proper (codes "run")) (list_all is_proper r.behind) all in
-    let ps : list_all is_proper (words_of r.parts) ≡ true = subst (λ x. list_all is_proper x ≡ true) r.are_parts.spelled k.1 in
+    let all : list_all is_proper (codes "run" ∷ r.asks.behind) ≡ true =
+    subst (λ x. list_all is_proper x ≡ true) r.asks.command r.asks.proper in
+    let k = two-parts (is_proper (codes "run")) (list_all is_proper r.asks.behind) all in
+    let ps : list_all is_proper (words_of r.asks.parts) ≡ true = subst (λ x. list_all is_proper x ≡ true) r.asks.are_parts.spelled k.1 in
     let two : list_all is_proper (file ∷ goal ∷ []) ≡ true =
-    subst (λ x. list_all is_proper x ≡ true) r.are_parts.two (positionals-proper r.parts ps) in
+    subst (λ x. list_all is_proper x ≡ true) r.asks.are_parts.two (positionals-proper r.asks.parts ps) in
     let f = two-parts (is_proper file) (is_proper goal && true) two in
     let g = two-parts (is_proper goal) true f.1 in
     two-whole (is_proper file) (is_proper goal) f.0 g.0
 proper-words words (Show file) r =
-    let all : list_all is_proper (codes "show" ∷ file ∷ []) ≡ true = subst (λ x. list_all is_proper x ≡ true) r.command r.proper in
+    let all : list_all is_proper (codes "show" ∷ file ∷ []) ≡ true =
+    subst (λ x. list_all is_proper x ≡ true) r.asks.command r.asks.proper in
     let k = two-parts (is_proper (codes "show")) (is_proper file && true) all in
     let f = two-parts (is_proper file) true k.1 in
     f.0
@@ -263,20 +269,21 @@ one-run (p ∷ ps) qs g words file file' goal goal' limits limits' h k =
 
 pub one-reading : WordsHaveOneReading
 one-reading words (Run file goal limits) (Run file' goal' limits') r s =
-    let e : codes "run" ∷ r.behind ≡ codes "run" ∷ s.behind = sym r.command ∙ s.command in
-    let b : s.behind ≡ r.behind = cc in
-    one-run r.parts s.parts nothing r.behind file file' goal goal' limits limits'
-    (parts-rest r.parts r.behind file goal limits r.are_parts)
-    (parts-rest s.parts r.behind file' goal' limits' (subst (λ x. AreRunParts x s.parts file' goal' limits') b s.are_parts))
+    let e : codes "run" ∷ r.asks.behind ≡ codes "run" ∷ s.asks.behind = sym r.asks.command ∙ s.asks.command in
+    let b : s.asks.behind ≡ r.asks.behind = cc in
+    one-run r.asks.parts s.asks.parts nothing r.asks.behind file file' goal goal' limits limits'
+    (parts-rest r.asks.parts r.asks.behind file goal limits r.asks.are_parts)
+    (parts-rest s.asks.parts r.asks.behind file' goal' limits'
+    (subst (λ x. AreRunParts x s.asks.parts file' goal' limits') b s.asks.are_parts))
 one-reading words (Show file) (Show file') r s =
-    let e : codes "show" ∷ file ∷ [] ≡ codes "show" ∷ file' ∷ [] = sym r.command ∙ s.command in
+    let e : codes "show" ∷ file ∷ [] ≡ codes "show" ∷ file' ∷ [] = sym r.asks.command ∙ s.asks.command in
     let f : file ≡ file' = cc in
     ap Show f
 one-reading words (Run file goal limits) (Show file') r s =
-    let e : codes "run" ∷ r.behind ≡ codes "show" ∷ file' ∷ [] = sym r.command ∙ s.command in
+    let e : codes "run" ∷ r.asks.behind ≡ codes "show" ∷ file' ∷ [] = sym r.asks.command ∙ s.asks.command in
     absurd cc
 one-reading words (Show file) (Run file' goal' limits') r s =
-    let e : codes "show" ∷ file ∷ [] ≡ codes "run" ∷ s.behind = sym r.command ∙ s.command in
+    let e : codes "show" ∷ file ∷ [] ≡ codes "run" ∷ s.asks.behind = sym r.asks.command ∙ s.asks.command in
     absurd cc
 
 -- ---- slices of words

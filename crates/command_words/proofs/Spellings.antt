@@ -59,7 +59,7 @@ module _ (w : Bytes) where
 
   commits-else : (b : Bool) (o : RunOption) → bytes_eq w (codes "--commits") ≡ b
       → (if b then Some Commits else (if bytes_eq w (codes "--moves") then Some Moves
-          else (if bytes_eq w (codes "--cells") then Some Cells else None))) ≡ Some o
+      else (if bytes_eq w (codes "--cells") then Some Cells else None))) ≡ Some o
       → w ≡ option_word o
   commits-else true o p e = let a : Commits ≡ o = cc in subst (λ a. w ≡ option_word a) a (is_word w (codes "--commits") p)
   commits-else false o p e = moves-else (bytes_eq w (codes "--moves")) o refl e

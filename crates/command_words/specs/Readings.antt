@@ -102,10 +102,14 @@ pub record IsShow (words : List Bytes) (file : Bytes) : Type 0 where
   pub proper : list_all is_proper words ≡ true
   pub plain : is_plain file ≡ true
 
+-- by the command
+abbrev pub AskFor : List Bytes → Order → Type 0
+AskFor words (Run file goal limits) = IsRun words file goal limits
+AskFor words (Show file) = IsShow words file
+
 -- the words ask for this
-abbrev pub IsReading : List Bytes → Order → Type 0
-IsReading words (Run file goal limits) = IsRun words file goal limits
-IsReading words (Show file) = IsShow words file
+pub record IsReading (words : List Bytes) (o : Order) : Type 0 where
+  pub asks : AskFor words o
 
 -- the words ask for nothing
 abbrev pub HasNoReading : List Bytes → Type 0
