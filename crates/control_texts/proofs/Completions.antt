@@ -124,7 +124,7 @@ module _ (w : Bytes) where
 
   suspend-else : (b : Bool) (act : Act) → bytes_eq w (codes "suspend") ≡ b
       → (if b then Some Suspend else (if bytes_eq w (codes "resume") then Some Resume
-          else (if bytes_eq w (codes "abort") then Some Abort else None))) ≡ Some act
+      else (if bytes_eq w (codes "abort") then Some Abort else None))) ≡ Some act
       → w ≡ act_word act
   suspend-else true act p e = let a : Suspend ≡ act = cc in subst (λ a. w ≡ act_word a) a (is_word w (codes "suspend") p)
   suspend-else false act p e = resume-else (bytes_eq w (codes "resume")) act refl e

@@ -170,7 +170,7 @@ skips-none b bs e =
       whole = λ at.
           let here : at ≡ at + 0 = omega arith in
           subst (λ n. pieces_from at (b ∷ bs) ≡ pieces_from (at + n) (drop n (b ∷ bs))) (sym none)
-              (ap (λ k. pieces_from k (b ∷ bs)) here);
+          (ap (λ k. pieces_from k (b ∷ bs)) here);
       ends = λ all. absurd (omega (arith, all, none));
       stops = λ some. (b, bs, ap (λ n. drop n (b ∷ bs)) none, e);
     }
@@ -196,7 +196,7 @@ skips [] = record {
   ends = λ all at. refl;
   stops = λ some. absurd (omega (arith, some));
 }
-skips (b ∷ bs) = elim (true-or-false (b == 32)) [ | inl e ↦ skips-one b bs e (skips bs) | inr e ↦ skips-none b bs e ]
+skips (b ∷ bs) = elim (true-or-false (b == 32)) [ inl e ↦ skips-one b bs e (skips bs) | inr e ↦ skips-none b bs e ]
 
 -- ---- what the code finds
 
@@ -234,10 +234,10 @@ first-behind text len k l =
           let there : (at + spaces text) + len ≡ at + (spaces text + len) = omega arith in
           let cut : Cut (at + spaces text) (drop (spaces text) text) len =
           subst (λ x. Cut (at + spaces text) x len) (sym behind) (subst (Cut (at + spaces text) (b ∷ bs)) (sym len_is)
-              (piece-cut b bs (at + spaces text) k.3)) in
+          (piece-cut b bs (at + spaces text) k.3)) in
           (skips text).whole at ∙ cut
           ∙ ap (λ x. piece (at + spaces text) (take len (drop (spaces text) text)) ∷ pieces_from ((at + spaces text) + len) x)
-              (drop-drop len (spaces text) text)
+          (drop-drop len (spaces text) text)
           ∙ ap (λ n. piece (at + spaces text) (take len (drop (spaces text) text)) ∷ pieces_from n (drop (spaces text + len) text)) there;
     }
 

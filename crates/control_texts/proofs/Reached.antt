@@ -93,8 +93,7 @@ goes-on words r controls w taken h e =
           (h.whole (w ∷ rest) (made taken.control ++ more) (p.words rest more k)));
       only = λ rest all k.
           let j = h.only (w ∷ rest) all (subst (λ x. Rest begin x all) (append_assoc words (w ∷ []) rest) k) in
-          let f = follow-as r w rest j.0 taken e (follows r w rest j.0 j.2) in
-          (
+          let f = follow-as r w rest j.0 taken e (follows r w rest j.0 j.2) in (
             f.0,
             j.1 ∙ ap (λ x. controls ++ x) f.1 ∙ sym (append_assoc controls (made taken.control) f.0),
             f.2,

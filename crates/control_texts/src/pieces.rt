@@ -23,8 +23,7 @@ fn first_of_piece(text: &[u8]) -> Option<usize>
 fn first_behind_word(text: &[u8]) -> Option<usize>
     ensures { result ≡ position (λ b. b == 32 || b == 59) text.now }
 {
-    text.iter()
-        .position(|byte| *byte == b' ' || *byte == b';')
+    text.iter().position(|byte| *byte == b' ' || *byte == b';')
 }
 
 /// How many bytes stand before the first space or `;`.
