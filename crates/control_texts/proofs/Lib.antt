@@ -1,0 +1,5 @@
+pub mod Completions
+pub mod Cutting
+pub mod Following
+pub mod OneFault
+pub mod Reached
