@@ -1,6 +1,8 @@
 -- Words are answered in one way.
 use Rattle.std.proofs.Common.{◌≡◌, ℕ, ◌<◌, ◌≤◌, List, length, Option, Some, ap, sym, ◌∙◌, subst, arith}
 use Rattle.std.specs.Prelude.{IsSomeAnd}
+use Rattle.command_words.specs.Readings.{file_of}
+use Rattle.command_words.proofs.Answering.{one-reading}
 use Rattle.fcp_model.specs.Spelling.{Bytes}
 use Rattle.logix_edge.specs.Causes.{Rose}
 use Rattle.logix_edge.specs.Shelves.{Entries, bytes_of}
@@ -8,10 +10,8 @@ use Rattle.logix_app.specs.declared.status.Status.{Status}
 use Rattle.logix_app.specs.declared.status.Status.TheVariants as status
 use Rattle.logix_app.specs.Answers.{AnswersOrder}
 use Rattle.logix_app.specs.Headline.{IsAnswered, IsTooLong}
-use Rattle.logix_app.specs.Orders.{file_of}
 use Rattle.logix_app.proofs.KindsOfAnswers.{CallAnswer, any-answer}
 use Rattle.logix_app.proofs.KindsOfAnswers as kinds
-use Rattle.logix_app.proofs.OneReading.{one-order}
 use Rattle.answer_laws.specs.OneAnswers.{CallsHaveOneAnswer}
 use Rattle.answer_laws.proofs.OneOrder.{Same, one-answer}
 
@@ -29,7 +29,7 @@ fetched-too-long : (words : List Bytes) (entries : Entries) (b n c d : ℕ) (s :
     → IsAnswered words (Some entries) b n s x
     → IsTooLong words (Some entries) c d y → ⊥
 fetched-too-long words entries b n c d s x y a t =
-    let o : a.order ≡ t.order = one-order words a.order t.order a.reading t.reading in
+    let o : a.order ≡ t.order = one-reading words a.order t.order a.reading t.reading in
     within-above (bytes_of entries (file_of a.order)) a.file a.fetched.told a.fetched.within
     (subst (λ p. IsSomeAnd (bytes_of entries (file_of p)) (λ bytes. 1048576 < length bytes)) (sym o) t.above)
 
@@ -38,7 +38,7 @@ module _ (words : List Bytes) (entries : Entries) (b n : ℕ) (last : Option Byt
   same-answers : (s ≡ status.NoMemory → ⊥) → (s' ≡ status.NoMemory → ⊥) → IsAnswered words (Some entries) b n s text
       → IsAnswered words (Some entries) b' n' s' text' → Same s s' text text'
   same-answers enough enough' a a' =
-      let o : a.order ≡ a'.order = one-order words a.order a'.order a.reading a'.reading in
+      let o : a.order ≡ a'.order = one-reading words a.order a'.order a.reading a'.reading in
       let there : bytes_of entries (file_of a'.order) ≡ Some a.file = ap (λ p. bytes_of entries (file_of p)) (sym o) ∙ a.fetched.told in
       let f : a.file ≡ a'.file = one-some a.file a'.file (bytes_of entries (file_of a'.order)) there a'.fetched.told in
       one-answer a'.order a'.file s s' text text' enough enough'

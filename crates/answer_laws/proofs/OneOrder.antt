@@ -1,7 +1,10 @@
 -- An order is answered in one way over the bytes of its file.
 use Rattle.std.proofs.Common.{◌≡◌, true, false, [], ap, sym, ◌∙◌, subst}
+use Rattle.command_words.specs.declared.order.Order.{Order}
+use Rattle.command_words.specs.declared.order.Order.TheVariants.{Run, Show}
 use Rattle.fcp_laws.proofs.OneReport.{one_report}
 use Rattle.fcp_model.specs.declared.fault.Fault.{Fault}
+use Rattle.fcp_model.specs.declared.run.Limits.{Limits}
 use Rattle.fcp_model.specs.declared.run.Outcome.{Outcome}
 use Rattle.fcp_model.specs.ReportText.{goal_variables}
 use Rattle.fcp_model.specs.Reports.{IsOneWorkerReport}
@@ -10,9 +13,7 @@ use Rattle.fcp_model.specs.Translation.{program_of, start_of}
 use Rattle.fcp_text.specs.SourceClauses.{module_text}
 use Rattle.logix_app.specs.declared.status.Status.{Status}
 use Rattle.logix_app.specs.declared.status.Status.TheVariants as status
-use Rattle.logix_app.specs.declared.words.Order.{Order}
-use Rattle.logix_app.specs.declared.words.Order.TheVariants.{Run, Show}
-use Rattle.logix_app.specs.Answers.{default_limits, IsRunOf, IsNotInForm, IsShownAs, AnswersOrder}
+use Rattle.logix_app.specs.Answers.{IsRunOf, IsNotInForm, IsShownAs, AnswersOrder}
 use Rattle.logix_app.specs.Lines.{module_line, goal_line}
 use Rattle.logix_app.specs.Loading.{IsFirstFault, IsFirstGoalFault, is_runnable}
 use Rattle.logix_app.proofs.KindsOfAnswers.{RunAnswer, ShowAnswer, run-answer, show-answer}
@@ -24,8 +25,8 @@ abbrev pub Same : Status → Status → Bytes → Bytes → Type 0
 Same s s' text text' = (s ≡ s') × (text ≡ text')
 
 -- the report of the one-worker run of a goal over a file, by what they are
-abbrev pub IsReportOver : Texts → Outcome → Bytes → Type 0
-IsReportOver t o text = IsOneWorkerReport (program_of t.m) (start_of t.m t.g) default_limits [] t.names (goal_variables t.g.names) o text
+abbrev pub IsReportOver : Limits → Texts → Outcome → Bytes → Type 0
+IsReportOver limits t o text = IsOneWorkerReport (program_of t.m) (start_of t.m t.g) limits [] t.names (goal_variables t.g.names) o text
 
 module _ (file : Bytes) (s s' : Status) (text text' : Bytes) where
   same-module-faults : (f g : Fault) → s ≡ status.Module f → s' ≡ status.Module g → text ≡ module_line f → text' ≡ module_line g
@@ -45,33 +46,34 @@ module _ (file : Bytes) (s s' : Status) (text text' : Bytes) where
   one-show (kinds.module_fault f e l i) (kinds.shown e' r) = absurd (no-fault file r.m r.names f r.loaded i)
   one-show (kinds.module_fault f e l i) (kinds.module_fault g e' l' j) = same-module-faults f g e e' l l' i j
 
-  module _ (goal : Bytes) where
+  module _ (limits : Limits) (goal : Bytes) where
     same-goal-faults : (f g : Fault) → s ≡ status.Goal f → s' ≡ status.Goal g → text ≡ goal_line f → text' ≡ goal_line g
         → IsFirstGoalFault file goal f → IsFirstGoalFault file goal g → Same s s' text text'
     same-goal-faults f g e e' l l' i j =
         let q : f ≡ g = one-first-goal-fault file goal f g i j in
         (e ∙ ap status.Goal q ∙ sym e', l ∙ ap goal_line q ∙ sym l')
 
-    same-runs : (o p : Outcome) → s ≡ status.Ended o → s' ≡ status.Ended p → IsRunOf file goal o text → IsRunOf file goal p text'
+    same-runs : (o p : Outcome) → s ≡ status.Ended o → s' ≡ status.Ended p → IsRunOf limits file goal o text
+        → IsRunOf limits file goal p text'
         → Same s s' text text'
     same-runs o p e e' r r' =
         let same = one-texts file goal r.m r'.m r.g r'.g r.names r'.names r.loaded r'.loaded in
         let one =
-        one_report (program_of r'.m) (start_of r'.m r'.g) default_limits [] r'.names (goal_variables r'.g.names) o p text text'
-        (subst (λ t. IsReportOver t o text) same r.by_one_worker) r'.by_one_worker in
+        one_report (program_of r'.m) (start_of r'.m r'.g) limits [] r'.names (goal_variables r'.g.names) o p text text'
+        (subst (λ t. IsReportOver limits t o text) same r.by_one_worker) r'.by_one_worker in
         (e ∙ ap status.Ended one.0 ∙ sym e', one.1)
 
     -- what is run is of what runs so far
-    ran-beyond : (o : Outcome) (x : Bytes) → IsRunOf file goal o x → IsNotInForm file goal → ⊥
+    ran-beyond : (o : Outcome) (x : Bytes) → IsRunOf limits file goal o x → IsNotInForm file goal → ⊥
     ran-beyond o x r n =
         let same = one-texts file goal r.m n.m r.g n.g r.names n.names r.loaded n.loaded in
         let both : true ≡ false = sym r.runnable ∙ ap (λ (t : Texts). is_runnable t.m t.g) same ∙ n.beyond in
         cc
 
-    ran-goal-fault : (o : Outcome) (x : Bytes) (f : Fault) → IsRunOf file goal o x → IsFirstGoalFault file goal f → ⊥
+    ran-goal-fault : (o : Outcome) (x : Bytes) (f : Fault) → IsRunOf limits file goal o x → IsFirstGoalFault file goal f → ⊥
     ran-goal-fault o x f r i = no-first-goal-fault file goal r.m r.g r.names f r.loaded i
 
-    ran-module-fault : (o : Outcome) (x : Bytes) (f : Fault) → IsRunOf file goal o x → IsFirstFault file f → ⊥
+    ran-module-fault : (o : Outcome) (x : Bytes) (f : Fault) → IsRunOf limits file goal o x → IsFirstFault file f → ⊥
     ran-module-fault o x f r i = no-fault file r.m r.loaded.before f r.loaded.loaded i
 
     module-and-goal-fault : (f g : Fault) → IsFirstFault file f → IsFirstGoalFault file goal g → ⊥
@@ -83,7 +85,7 @@ module _ (file : Bytes) (s s' : Status) (text text' : Bytes) where
     beyond-goal-fault : (f : Fault) → IsNotInForm file goal → IsFirstGoalFault file goal f → ⊥
     beyond-goal-fault f n i = no-first-goal-fault file goal n.m n.g n.names f n.loaded i
 
-    one-run : RunAnswer file goal s text → RunAnswer file goal s' text' → Same s s' text text'
+    one-run : RunAnswer limits file goal s text → RunAnswer limits file goal s' text' → Same s s' text text'
     one-run (kinds.ran o e r) (kinds.ran p e' r') = same-runs o p e e' r r'
     one-run (kinds.ran o e r) (kinds.module_fault f e' l i) = absurd (ran-module-fault o text f r i)
     one-run (kinds.ran o e r) (kinds.goal_fault f e' l i) = absurd (ran-goal-fault o text f r i)
@@ -103,7 +105,8 @@ module _ (file : Bytes) (s s' : Status) (text text' : Bytes) where
 
 pub one-answer : (o : Order) (file : Bytes) (s s' : Status) (text text' : Bytes) → (s ≡ status.NoMemory → ⊥) → (s' ≡ status.NoMemory → ⊥)
     → AnswersOrder o file s text → AnswersOrder o file s' text' → Same s s' text text'
-one-answer (Run name goal) file s s' text text' enough enough' a a' =
-    one-run file s s' text text' goal (run-answer file goal s text a enough) (run-answer file goal s' text' a' enough')
+one-answer (Run name goal limits) file s s' text text' enough enough' a a' =
+    one-run file s s' text text' limits goal (run-answer limits file goal s text a enough)
+    (run-answer limits file goal s' text' a' enough')
 one-answer (Show name) file s s' text text' enough enough' a a' =
     one-show file s s' text text' (show-answer file s text a enough) (show-answer file s' text' a' enough')

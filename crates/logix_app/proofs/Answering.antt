@@ -1,6 +1,11 @@
 -- What is answered to the words, what is written of that, and that what can be done is done.
 use Rattle.std.proofs.Common.{◌≡◌, ℕ, ◌<◌, ◌≤◌, true, false, List, [], length, Option, Some, Ok, Err, ap, sym, ◌∙◌, subst, arith}
 use Rattle.std.specs.Prelude.{Result, IfOk, IsSomeAnd}
+use Rattle.command_words.specs.declared.order.Order.{Order}
+use Rattle.command_words.specs.declared.order.Order.TheVariants.{Run, Show}
+use Rattle.command_words.specs.Readings.{file_of, IsReading}
+use Rattle.command_words.proofs.Answering.{one-reading}
+use Rattle.fcp_model.specs.declared.run.Limits.{Limits}
 use Rattle.logix_edge.specs.declared.sink.Put.TheVariants as put
 use Rattle.logix_edge.specs.Causes.{Rose}
 use Rattle.logix_edge.specs.Shelves.{Entries, bytes_of}
@@ -10,39 +15,35 @@ use Rattle.fcp_model.specs.declared.memory.NoMemory.{NoMemory}
 use Rattle.logix_app.specs.declared.answer.Answer.{Answer}
 use Rattle.logix_app.specs.declared.status.Status.{Status}
 use Rattle.logix_app.specs.declared.status.Status.TheVariants as status
-use Rattle.logix_app.specs.declared.words.Order.{Order}
-use Rattle.logix_app.specs.declared.words.Order.TheVariants.{Run, Show}
 use Rattle.logix_app.specs.Answers.{AnswersOrder, CanRun, CanShow, CanDo, IsDoneOrNoMemory}
 use Rattle.logix_app.specs.Headline.{Answers, WritesWhole, Writes, HasWork, IsFetched, IsAnswered, Completes}
 use Rattle.logix_app.specs.Loading.{is_runnable}
-use Rattle.logix_app.specs.Orders.{file_of, IsReading}
 use Rattle.logix_app.specs.Parts.{text_of}
 use Rattle.logix_app.proofs.KindsOfAnswers.{RunAnswer, ShowAnswer, CallAnswer, run-answer, show-answer, any-answer}
 use Rattle.logix_app.proofs.KindsOfAnswers as kinds
 use Rattle.logix_app.proofs.OneLoading.{Texts, no-fault, one-texts, no-first-goal-fault}
-use Rattle.logix_app.proofs.OneReading.{one-order}
 
 -- ---- what is answered
 
 -- no order is answered with one of these statuses
 not-usage : (o : Order) (file text : Bytes) → AnswersOrder o file status.Usage text → ⊥
-not-usage (Run name goal) file text a = a
+not-usage (Run name goal limits) file text a = a
 not-usage (Show name) file text a = a
 
 not-shelf : (o : Order) (file text : Bytes) → AnswersOrder o file status.Shelf text → ⊥
-not-shelf (Run name goal) file text a = a
+not-shelf (Run name goal limits) file text a = a
 not-shelf (Show name) file text a = a
 
 not-too-long : (o : Order) (file text : Bytes) → AnswersOrder o file status.TooLong text → ⊥
-not-too-long (Run name goal) file text a = a
+not-too-long (Run name goal limits) file text a = a
 not-too-long (Show name) file text a = a
 
 not-sink : (o : Order) (file text : Bytes) → AnswersOrder o file status.Sink text → ⊥
-not-sink (Run name goal) file text a = a
+not-sink (Run name goal limits) file text a = a
 not-sink (Show name) file text a = a
 
 no-memory : (o : Order) (file text : Bytes) → AnswersOrder o file status.NoMemory text → text ≡ []
-no-memory (Run name goal) file text a = a
+no-memory (Run name goal limits) file text a = a
 no-memory (Show name) file text a = a
 
 module _ (words : List Bytes) (held : Option Entries) (before now : ℕ) (last : Option Bytes) where
@@ -98,14 +99,15 @@ module _ (words : List Bytes) (held : Option Entries) (before now : ℕ) (last o
 
 -- ---- what can be done is done
 
-run-is-done : (name goal file : Bytes) (s : Status) (text : Bytes) → CanRun file goal → RunAnswer file goal s text
-    → IsDoneOrNoMemory (Run name goal) s
-run-is-done name goal file s text can (kinds.ran o e r) = subst (IsDoneOrNoMemory (Run name goal)) (sym e) tt
-run-is-done name goal file s text can (kinds.module_fault f e line first) =
+run-is-done : (name goal file : Bytes) (limits : Limits) (s : Status) (text : Bytes) → CanRun file goal
+    → RunAnswer limits file goal s text
+    → IsDoneOrNoMemory (Run name goal limits) s
+run-is-done name goal file limits s text can (kinds.ran o e r) = subst (IsDoneOrNoMemory (Run name goal limits)) (sym e) tt
+run-is-done name goal file limits s text can (kinds.module_fault f e line first) =
     absurd (no-fault file can.m can.loaded.before f can.loaded.loaded first)
-run-is-done name goal file s text can (kinds.goal_fault f e line first) =
+run-is-done name goal file limits s text can (kinds.goal_fault f e line first) =
     absurd (no-first-goal-fault file goal can.m can.g can.names f can.loaded first)
-run-is-done name goal file s text can (kinds.beyond e line n) =
+run-is-done name goal file limits s text can (kinds.beyond e line n) =
     let same = one-texts file goal can.m n.m can.g n.g can.names n.names can.loaded n.loaded in
     let both : true ≡ false = sym can.runnable ∙ ap (λ (t : Texts). is_runnable t.m t.g) same ∙ n.beyond in
     absurd cc
@@ -118,7 +120,8 @@ show-is-done name file s text can (kinds.module_fault f e line first) = absurd (
 order-is-done : (o : Order) (file : Bytes) (s : Status) (text : Bytes) → CanDo o file → AnswersOrder o file s text
     → (s ≡ status.NoMemory → ⊥)
     → IsDoneOrNoMemory o s
-order-is-done (Run name goal) file s text can a enough = run-is-done name goal file s text can (run-answer file goal s text a enough)
+order-is-done (Run name goal limits) file s text can a enough =
+    run-is-done name goal file limits s text can (run-answer limits file goal s text a enough)
 order-is-done (Show name) file s text can a enough = show-is-done name file s text can (show-answer file s text a enough)
 
 above-limit : (o : Option Bytes) (file : Bytes) → o ≡ Some file → IsSomeAnd o (λ bytes. 1048576 < length bytes) → 1048576 < length file
@@ -132,7 +135,7 @@ module _ (words : List Bytes) (entries : Entries) (before now : ℕ) (last : Opt
   -- each reading of the words names this file
   there-too : (p : Order) → IsReading words o → IsReading words p → bytes_of entries (file_of o) ≡ Some file
       → bytes_of entries (file_of p) ≡ Some file
-  there-too p r q there = ap (λ x. bytes_of entries (file_of x)) (one-order words p o q r) ∙ there
+  there-too p r q there = ap (λ x. bytes_of entries (file_of x)) (one-reading words p o q r) ∙ there
 
   -- the answer is over this file
   over-file : (s : Status) (text : Bytes) → IsReading words o → bytes_of entries (file_of o) ≡ Some file
@@ -140,7 +143,7 @@ module _ (words : List Bytes) (entries : Entries) (before now : ℕ) (last : Opt
   over-file s text r there a =
       let same : a.file ≡ file =
       one-file file a.file (bytes_of entries (file_of a.order)) (there-too a.order r a.reading there) a.fetched.told in
-      subst (λ x. AnswersOrder x file s text) (one-order words a.order o a.reading r)
+      subst (λ x. AnswersOrder x file s text) (one-reading words a.order o a.reading r)
       (subst (λ x. AnswersOrder a.order x s text) same a.answers)
 
   is-done : (s : Status) (text : Bytes) → IsReading words o → bytes_of entries (file_of o) ≡ Some file → length file ≤ 1048576
@@ -155,7 +158,7 @@ module _ (words : List Bytes) (entries : Entries) (before now : ℕ) (last : Opt
       order-is-done o file s text can (over-file s text r there a) enough
 
 no-memory-is-done : (o : Order) → IsDoneOrNoMemory o status.NoMemory
-no-memory-is-done (Run name goal) = tt
+no-memory-is-done (Run name goal limits) = tt
 no-memory-is-done (Show name) = tt
 
 module _ (words : List Bytes) (held : Option Entries) (before now : ℕ) (last old new : Option Bytes) (counted count : ℕ) where

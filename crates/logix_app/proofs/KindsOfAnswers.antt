@@ -1,6 +1,7 @@
 -- What an answer is, if memory did not run out: one case for each status that comes.
 use Rattle.std.proofs.Common.{◌≡◌, ℕ, List, Option, refl}
 use Rattle.fcp_model.specs.declared.fault.Fault.{Fault}
+use Rattle.fcp_model.specs.declared.run.Limits.{Limits}
 use Rattle.fcp_model.specs.declared.run.Outcome.{Outcome}
 use Rattle.fcp_model.specs.Spelling.{Bytes}
 use Rattle.logix_edge.specs.Shelves.{Entries}
@@ -12,24 +13,25 @@ use Rattle.logix_app.specs.Lines.{form_line, module_line, goal_line}
 use Rattle.logix_app.specs.Loading.{IsFirstFault, IsFirstGoalFault}
 
 -- a goal that is to be run
-pub data RunAnswer (file goal : Bytes) (s : Status) (text : Bytes) : Type 0 where
-  ran : (o : Outcome) → s ≡ status.Ended o → IsRunOf file goal o text → RunAnswer file goal s text
-  module_fault : (f : Fault) → s ≡ status.Module f → text ≡ module_line f → IsFirstFault file f → RunAnswer file goal s text
-  goal_fault : (f : Fault) → s ≡ status.Goal f → text ≡ goal_line f → IsFirstGoalFault file goal f → RunAnswer file goal s text
-  beyond : s ≡ status.Form → text ≡ form_line → IsNotInForm file goal → RunAnswer file goal s text
+pub data RunAnswer (limits : Limits) (file goal : Bytes) (s : Status) (text : Bytes) : Type 0 where
+  ran : (o : Outcome) → s ≡ status.Ended o → IsRunOf limits file goal o text → RunAnswer limits file goal s text
+  module_fault : (f : Fault) → s ≡ status.Module f → text ≡ module_line f → IsFirstFault file f → RunAnswer limits file goal s text
+  goal_fault : (f : Fault) → s ≡ status.Goal f → text ≡ goal_line f → IsFirstGoalFault file goal f → RunAnswer limits file goal s text
+  beyond : s ≡ status.Form → text ≡ form_line → IsNotInForm file goal → RunAnswer limits file goal s text
 
-pub run-answer : (file goal : Bytes) (s : Status) (text : Bytes) → AnswersRun file goal s text → (s ≡ status.NoMemory → ⊥)
-    → RunAnswer file goal s text
-run-answer file goal (status.Ended o) text a enough = ran o refl a
-run-answer file goal (status.Module f) text a enough = module_fault f refl a.0 a.1
-run-answer file goal (status.Goal f) text a enough = goal_fault f refl a.0 a.1
-run-answer file goal status.Form text a enough = beyond refl a.0 a.1
-run-answer file goal status.NoMemory text a enough = absurd (enough refl)
-run-answer file goal status.Shown text a enough = absurd a
-run-answer file goal status.Usage text a enough = absurd a
-run-answer file goal status.Shelf text a enough = absurd a
-run-answer file goal status.TooLong text a enough = absurd a
-run-answer file goal status.Sink text a enough = absurd a
+pub run-answer : (limits : Limits) (file goal : Bytes) (s : Status) (text : Bytes) → AnswersRun limits file goal s text
+    → (s ≡ status.NoMemory → ⊥)
+    → RunAnswer limits file goal s text
+run-answer limits file goal (status.Ended o) text a enough = ran o refl a
+run-answer limits file goal (status.Module f) text a enough = module_fault f refl a.0 a.1
+run-answer limits file goal (status.Goal f) text a enough = goal_fault f refl a.0 a.1
+run-answer limits file goal status.Form text a enough = beyond refl a.0 a.1
+run-answer limits file goal status.NoMemory text a enough = absurd (enough refl)
+run-answer limits file goal status.Shown text a enough = absurd a
+run-answer limits file goal status.Usage text a enough = absurd a
+run-answer limits file goal status.Shelf text a enough = absurd a
+run-answer limits file goal status.TooLong text a enough = absurd a
+run-answer limits file goal status.Sink text a enough = absurd a
 
 -- a file that is to be shown
 pub data ShowAnswer (file : Bytes) (s : Status) (text : Bytes) : Type 0 where

@@ -3,6 +3,5 @@ pub mod CalledItems
 pub mod KindsOfAnswers
 pub mod Loaded
 pub mod OneLoading
-pub mod OneReading
 pub mod Pieces
 pub mod Simple

@@ -7,6 +7,7 @@ use Rattle.fcp_model.specs.declared.fault.Refused.{Refused}
 use Rattle.fcp_model.specs.declared.fault.Refused.TheVariants as refused
 use Rattle.fcp_model.specs.declared.source.Module.{Module}
 use Rattle.fcp_model.specs.declared.source.GoalText.{GoalText}
+use Rattle.fcp_model.specs.declared.run.Limits.{Limits}
 use Rattle.fcp_model.specs.declared.run.Outcome.{Outcome}
 use Rattle.fcp_model.specs.ReportText.{goal_variables}
 use Rattle.fcp_model.specs.Reports.{IsOneWorkerReport}
@@ -27,7 +28,7 @@ use Rattle.fcp_laws.proofs.LawfulReports.{is_run_report}
 use Rattle.fcp_laws.proofs.SoundSchedules.{start_ordered}
 use Rattle.reading_laws.proofs.ReadAgain.{canonical_texts}
 use Rattle.logix_app.specs.declared.answer.Answer.{Answer}
-use Rattle.logix_app.specs.Answers.{default_limits, IsRunOf, IsShownAs, AnswersRun, AnswersShow}
+use Rattle.logix_app.specs.Answers.{IsRunOf, IsShownAs, AnswersRun, AnswersShow}
 use Rattle.logix_app.specs.Loading.{IsLoadedModule, in_module, AreLoaded, is_runnable}
 use Rattle.logix_app.specs.Loading as loading
 use Rattle.logix_app.specs.Parts.{text_of, LoadsText, IsLoadedGoal, LoadsGoalText, TellsModule, TellsGoal}
@@ -74,16 +75,17 @@ both-loaded file goal m before g names l t =
     record { before = before; loaded = l; is_goal = t.is_goal; faultless = t.faultless; strings = t.strings }
 
 -- the engine's report is the answer
-pub ran : (file goal : Bytes) (m : Module) (g : GoalText) (names : List Bytes) (o : Outcome) (text : Bytes) → AreLoaded file goal m g names
+pub ran : (limits : Limits) (file goal : Bytes) (m : Module) (g : GoalText) (names : List Bytes) (o : Outcome) (text : Bytes)
+    → AreLoaded file goal m g names
     → is_runnable m g ≡ true
-    → IsOneWorkerReport (program_of m) (start_of m g) default_limits [] names (goal_variables g.names) o text → IsRunOf file goal o text
-ran file goal m g names o text l runnable r = record {
+    → IsOneWorkerReport (program_of m) (start_of m g) limits [] names (goal_variables g.names) o text → IsRunOf limits file goal o text
+ran limits file goal m g names o text l runnable r = record {
   m = m;
   g = g;
   names = names;
   loaded = l;
   runnable = runnable;
-  is_run = is_run_report (program_of m) (start_of m g) default_limits [] names (goal_variables g.names) o text
+  is_run = is_run_report (program_of m) (start_of m g) limits [] names (goal_variables g.names) o text
       (start_ordered (length g.names) (started_goals m g)) refl tt r;
   by_one_worker = r;
 }
@@ -130,11 +132,13 @@ within-goal m before goal after g (Ok l) read load =
 within-goal m before goal after g (Err e) read load = tt
 
 -- the answers where a module or a goal was refused
-pub refused-run : (file goal : Bytes) (names : List Bytes) (r : Refused) (a : Result Answer NoMemory) → LoadsText file names (Err r)
-    → IfOk a (TellsModule r) → IfOk a (λ x. AnswersRun file goal x.status (text_of x.output))
-refused-run file goal names (refused.Fault f) (Ok a) l t = subst (λ s. AnswersRun file goal s (text_of a.output)) (sym t.0) (t.1, l)
-refused-run file goal names (refused.NoMemory n) (Ok a) l t = absurd t
-refused-run file goal names r (Err e) l t = tt
+pub refused-run : (limits : Limits) (file goal : Bytes) (names : List Bytes) (r : Refused) (a : Result Answer NoMemory)
+    → LoadsText file names (Err r)
+    → IfOk a (TellsModule r) → IfOk a (λ x. AnswersRun limits file goal x.status (text_of x.output))
+refused-run limits file goal names (refused.Fault f) (Ok a) l t =
+    subst (λ s. AnswersRun limits file goal s (text_of a.output)) (sym t.0) (t.1, l)
+refused-run limits file goal names (refused.NoMemory n) (Ok a) l t = absurd t
+refused-run limits file goal names r (Err e) l t = tt
 
 pub refused-show : (file : Bytes) (names : List Bytes) (r : Refused) (a : Result Answer NoMemory) → LoadsText file names (Err r)
     → IfOk a (TellsModule r) → IfOk a (λ x. AnswersShow file x.status (text_of x.output))
@@ -142,10 +146,12 @@ refused-show file names (refused.Fault f) (Ok a) l t = subst (λ s. AnswersShow 
 refused-show file names (refused.NoMemory n) (Ok a) l t = absurd t
 refused-show file names r (Err e) l t = tt
 
-pub refused-goal : (file goal : Bytes) (m : Module) (before names : List Bytes) (r : Refused) (a : Result Answer NoMemory)
+pub refused-goal : (limits : Limits) (file goal : Bytes) (m : Module) (before names : List Bytes) (r : Refused)
+    (a : Result Answer NoMemory)
     → IsLoadedModule file m before → LoadsGoalText m before goal names (Err r) → IfOk a (TellsGoal r)
-    → IfOk a (λ x. AnswersRun file goal x.status (text_of x.output))
-refused-goal file goal m before names (refused.Fault f) (Ok a) l first t =
-    subst (λ s. AnswersRun file goal s (text_of a.output)) (sym t.0) (t.1, record { m = m; before = before; loaded = l; first = first })
-refused-goal file goal m before names (refused.NoMemory n) (Ok a) l first t = absurd t
-refused-goal file goal m before names r (Err e) l first t = tt
+    → IfOk a (λ x. AnswersRun limits file goal x.status (text_of x.output))
+refused-goal limits file goal m before names (refused.Fault f) (Ok a) l first t =
+    subst (λ s. AnswersRun limits file goal s (text_of a.output)) (sym t.0)
+    (t.1, record { m = m; before = before; loaded = l; first = first })
+refused-goal limits file goal m before names (refused.NoMemory n) (Ok a) l first t = absurd t
+refused-goal limits file goal m before names r (Err e) l first t = tt

@@ -1,5 +1,7 @@
 -- What is answered to an order over the bytes of the file that it names: a status with the text that is printed.
 use Rattle.std.specs.Prelude.{◌≡◌, true, false, List, []}
+use Rattle.command_words.specs.declared.order.Order.{Order}
+use Rattle.command_words.specs.declared.order.Order.TheVariants.{Run, Show}
 use Rattle.fcp_model.specs.declared.run.Limits.{Limits}
 use Rattle.fcp_model.specs.declared.run.Outcome.{Outcome}
 use Rattle.fcp_model.specs.declared.source.Module.{Module}
@@ -12,25 +14,19 @@ use Rattle.fcp_text.specs.SourceClauses.{module_text}
 use Rattle.reading_laws.specs.CanonicalReading.{IsShallow, IsAlike}
 use Rattle.logix_app.specs.declared.status.Status.{Status}
 use Rattle.logix_app.specs.declared.status.Status.TheVariants as status
-use Rattle.logix_app.specs.declared.words.Order.{Order}
-use Rattle.logix_app.specs.declared.words.Order.TheVariants.{Run, Show}
 use Rattle.logix_app.specs.Lines.{form_line, module_line, goal_line}
 use Rattle.logix_app.specs.Loading.{IsLoadedModule, IsFirstFault, AreLoaded, IsFirstGoalFault, is_runnable}
 
--- the most commits, moves and cells of a run
-abbrev pub default_limits : Limits
-default_limits = record { commits = 1000000; moves = 1000000; cells = 8000000 }
-
 -- The goal was run over the module: the text is the report of a run by the definitions, within the limits, of which one
 -- worker made each entry, and the run ended so.
-pub record IsRunOf (file goal : Bytes) (o : Outcome) (text : Bytes) : Type 0 where
+pub record IsRunOf (limits : Limits) (file goal : Bytes) (o : Outcome) (text : Bytes) : Type 0 where
   pub m : Module
   pub g : GoalText
   pub names : List Bytes
   pub loaded : AreLoaded file goal m g names
   pub runnable : is_runnable m g ≡ true
-  pub is_run : IsRunReport (program_of m) (start_of m g) default_limits [] names (goal_variables g.names) o text
-  pub by_one_worker : IsOneWorkerReport (program_of m) (start_of m g) default_limits [] names (goal_variables g.names) o text
+  pub is_run : IsRunReport (program_of m) (start_of m g) limits [] names (goal_variables g.names) o text
+  pub by_one_worker : IsOneWorkerReport (program_of m) (start_of m g) limits [] names (goal_variables g.names) o text
 
 -- neither text has a fault, and they are not of what runs so far
 pub record IsNotInForm (file goal : Bytes) : Type 0 where
@@ -49,14 +45,14 @@ pub record IsShownAs (file text : Bytes) : Type 0 where
   pub canonical : text ≡ module_text names m
   pub reads_back : IsShallow text → IsAlike names m text
 
--- a goal that is to be run over a file: the report of its run, or why there is none
-abbrev pub AnswersRun : Bytes → Bytes → Status → Bytes → Type 0
-AnswersRun file goal (status.Ended o) text = IsRunOf file goal o text
-AnswersRun file goal (status.Module f) text = (text ≡ module_line f) × IsFirstFault file f
-AnswersRun file goal (status.Goal f) text = (text ≡ goal_line f) × IsFirstGoalFault file goal f
-AnswersRun file goal status.Form text = (text ≡ form_line) × IsNotInForm file goal
-AnswersRun file goal status.NoMemory text = text ≡ []
-AnswersRun file goal _ text = ⊥
+-- a goal that is to be run over a file within limits: the report of its run, or why there is none
+abbrev pub AnswersRun : Limits → Bytes → Bytes → Status → Bytes → Type 0
+AnswersRun limits file goal (status.Ended o) text = IsRunOf limits file goal o text
+AnswersRun limits file goal (status.Module f) text = (text ≡ module_line f) × IsFirstFault file f
+AnswersRun limits file goal (status.Goal f) text = (text ≡ goal_line f) × IsFirstGoalFault file goal f
+AnswersRun limits file goal status.Form text = (text ≡ form_line) × IsNotInForm file goal
+AnswersRun limits file goal status.NoMemory text = text ≡ []
+AnswersRun limits file goal _ text = ⊥
 
 -- a file that is to be shown: its canonical text, or why there is none
 abbrev pub AnswersShow : Bytes → Status → Bytes → Type 0
@@ -67,7 +63,7 @@ AnswersShow file _ text = ⊥
 
 -- an answer to an order, over the bytes of its file; where memory ran out nothing is printed
 abbrev pub AnswersOrder : Order → Bytes → Status → Bytes → Type 0
-AnswersOrder (Run name goal) file s text = AnswersRun file goal s text
+AnswersOrder (Run name goal limits) file s text = AnswersRun limits file goal s text
 AnswersOrder (Show name) file s text = AnswersShow file s text
 
 -- ---- what has to be done
@@ -88,12 +84,12 @@ pub record CanShow (file : Bytes) : Type 0 where
 
 -- what an order asks for can be done
 abbrev pub CanDo : Order → Bytes → Type 0
-CanDo (Run name goal) file = CanRun file goal
+CanDo (Run name goal limits) file = CanRun file goal
 CanDo (Show name) file = CanShow file
 
 -- an order was done, or memory ran out
 abbrev pub IsDoneOrNoMemory : Order → Status → Type 0
 IsDoneOrNoMemory order status.NoMemory = Unit {0}
-IsDoneOrNoMemory (Run name goal) (status.Ended o) = Unit {0}
+IsDoneOrNoMemory (Run name goal limits) (status.Ended o) = Unit {0}
 IsDoneOrNoMemory (Show name) status.Shown = Unit {0}
 IsDoneOrNoMemory order _ = ⊥

@@ -1,13 +1,13 @@
 -- What a call of the program answers, prints and leaves behind: the statement that the top call carries.
 use Rattle.std.specs.Prelude.{◌≡◌, ℕ, ◌<◌, ◌≤◌, List, [], length, take, Option, Some, IsSomeAnd}
+use Rattle.command_words.specs.declared.order.Order.{Order}
+use Rattle.command_words.specs.Readings.{file_of, IsReading, HasNoReading}
 use Rattle.fcp_model.specs.Spelling.{Bytes}
 use Rattle.logix_edge.specs.Causes.{Rose}
 use Rattle.logix_edge.specs.Shelves.{Entries, bytes_of, Told}
 use Rattle.logix_edge.specs.Sinks.{appended}
 use Rattle.logix_app.specs.declared.status.Status.{Status}
 use Rattle.logix_app.specs.declared.status.Status.TheVariants as status
-use Rattle.logix_app.specs.declared.words.Order.{Order}
-use Rattle.logix_app.specs.Orders.{file_of, IsReading, HasNoReading}
 use Rattle.logix_app.specs.Lines.{usage_line, shelf_line, too_long_line}
 use Rattle.logix_app.specs.Answers.{AnswersOrder, CanDo, IsDoneOrNoMemory}
 

@@ -3,6 +3,5 @@ pub mod FirstForms
 pub mod Headline
 pub mod Lines
 pub mod Loading
-pub mod Orders
 pub mod Parts
 pub mod Statuses

@@ -3,13 +3,13 @@ ghost use Rattle.std.specs.Prelude.{◌≡◌, ◌≤◌, IsTrue, IfOk, length, 
 ghost use Rattle.std.specs.String.{string_bytes};
 ghost use Rattle.logix_app.specs.Answers.{AnswersOrder};
 ghost use Rattle.logix_app.specs.Headline.{Answers};
-ghost use Rattle.logix_app.specs.Orders.{has_words, IsReading};
+ghost use Rattle.command_words.specs.Readings.{has_words, IsReading};
 ghost use Rattle.logix_app.specs.Parts.{text_of};
 
 use crate::Status;
 use crate::answer::Answer;
 use crate::loading::{answer_run, answer_show};
-use crate::words::{Order, WordFault, read_words};
+use command_words::{Order, WordFault, read_words};
 use fcp_model::NoMemory;
 use logix_edge::{Fetched, Shelf};
 use std::alloc::Global;
@@ -56,7 +56,11 @@ fn answer_over(alloc: Global, order: &Order, file: &[u8]) -> Result<Answer, NoMe
     ensures { IfOk result (λ a. AnswersOrder order.now file.now a.status (text_of a.output)) }
 {
     match order {
-        Order::Run { file: _, goal } => answer_run(alloc, file, goal.as_str().as_bytes()),
+        Order::Run {
+            file: _,
+            goal,
+            limits,
+        } => answer_run(alloc, file, goal.as_str().as_bytes(), *limits),
         Order::Show { file: _ } => answer_show(alloc, file),
     }
 }

@@ -12,18 +12,16 @@ mod first_form;
 mod lines;
 mod loading;
 mod status;
-mod words;
 mod writing;
 
 use fetching::answer_of;
 use logix_edge::{Put, Shelf, Sink};
 pub use status::Status;
 use std::alloc::Global;
-pub use words::{Order, WordFault, read_words};
 
-/// Does what the words ask for. `run FILE GOAL` runs the goal over the module of the file, with one worker, and puts the
-/// report to the sink; `show FILE` puts the module's canonical text. Any other answer but that memory ran out is a line of
-/// its own.
+/// Does what the words ask for. `run FILE GOAL` runs the goal over the module of the file, with one worker and within the
+/// limits of its options, and puts the report to the sink; `show FILE` puts the module's canonical text. Any other answer but
+/// that memory ran out is a line of its own.
 pub fn run_alone<S: Shelf, K: Sink>(
     alloc: Global,
     words: &[String],

@@ -3,7 +3,7 @@ ghost use Rattle.std.specs.Prelude.{◌≡◌, ◌≤◌, true, length, IfOk};
 ghost use Rattle.fcp_model.specs.NameList.{reserved_names};
 ghost use Rattle.fcp_model.specs.Spelling.{Bytes};
 ghost use Rattle.fcp_reader.specs.Limits.{is_module_within, is_goal_within};
-ghost use Rattle.logix_app.specs.Answers.{default_limits, AnswersRun, AnswersShow};
+ghost use Rattle.logix_app.specs.Answers.{AnswersRun, AnswersShow};
 ghost use Rattle.logix_app.specs.Loading.{IsLoadedModule, AreLoaded, is_runnable};
 ghost use Rattle.logix_app.specs.Parts.{text_of, LoadsText, LoadsGoalText};
 
@@ -17,26 +17,6 @@ use fcp_model::{GoalText, Limits, Loaded, LoadedGoal, Names, NoMemory, Refused};
 use fcp_reader::{read_goal, read_module};
 use plain_engine::{Report, run_goal};
 use std::alloc::Global;
-
-/// The most commits of a run.
-const MOST_COMMITS: u32 = 1_000_000;
-
-/// The most commits, hangs and fails of a run.
-const MOST_MOVES: u32 = 1_000_000;
-
-/// The most cells of a run.
-const MOST_CELLS: u32 = 8_000_000;
-
-/// The limits of every run.
-fn limits() -> Limits
-    ensures { result ≡ default_limits }
-{
-    Limits {
-        commits: MOST_COMMITS,
-        moves: MOST_MOVES,
-        cells: MOST_CELLS,
-    }
-}
 
 /// The module of a text, or its first fault. The strings before are the reserved ones.
 fn load_text(alloc: Global, file: &[u8], names: &mut Names) -> Result<Loaded, Refused>
@@ -84,15 +64,16 @@ fn answer_loaded(
     names: &Names,
     loaded: &Loaded,
     goal: &GoalText,
+    limits: Limits,
 ) -> Result<Answer, NoMemory>
     requires within { is_module_within loaded.now ≡ true }
     requires few { length loaded.now.clauses ≤ 1048576 }
     requires goal_within { is_goal_within goal.now ≡ true }
     ensures { (file text : Bytes) → AreLoaded file text loaded.now goal.now names.now
-        → IfOk result (λ a. AnswersRun file text a.status (text_of a.output)) }
+        → IfOk result (λ a. AnswersRun limits file text a.status (text_of a.output)) }
 {
     if is_runnable(loaded, goal) {
-        let Report { outcome, text } = run_goal(alloc, names, loaded, goal, limits())?;
+        let Report { outcome, text } = run_goal(alloc, names, loaded, goal, limits)?;
         Ok(Answer {
             status: Status::Ended(outcome),
             output: Output::Text(text),
@@ -108,29 +89,35 @@ fn answer_goal(
     names: Names,
     loaded: &Loaded,
     goal: &[u8],
+    limits: Limits,
 ) -> Result<Answer, NoMemory>
     requires short { length goal.now ≤ 1048576 }
     requires within { is_module_within loaded.now ≡ true }
     requires few { length loaded.now.clauses ≤ 1048576 }
     ensures { (file : Bytes) → IsLoadedModule file loaded.now names
-        → IfOk result (λ a. AnswersRun file goal.now a.status (text_of a.output)) }
+        → IfOk result (λ a. AnswersRun limits file goal.now a.status (text_of a.output)) }
 {
     let mut names = names;
     match load_goal_text(alloc, loaded, goal, &mut names) {
-        Ok(goal) => answer_loaded(alloc, &names, loaded, goal.goal()),
+        Ok(goal) => answer_loaded(alloc, &names, loaded, goal.goal(), limits),
         Err(refused) => goal_refusal(alloc, refused),
     }
 }
 
-/// The answer to the texts of a file and a goal that is to be run over it.
-pub fn answer_run(alloc: Global, file: &[u8], goal: &[u8]) -> Result<Answer, NoMemory>
+/// The answer to the texts of a file and a goal that is to be run over it within limits.
+pub fn answer_run(
+    alloc: Global,
+    file: &[u8],
+    goal: &[u8],
+    limits: Limits,
+) -> Result<Answer, NoMemory>
     requires file { length file.now ≤ 1048576 }
     requires goal { length goal.now ≤ 1048576 }
-    ensures { IfOk result (λ a. AnswersRun file.now goal.now a.status (text_of a.output)) }
+    ensures { IfOk result (λ a. AnswersRun limits file.now goal.now a.status (text_of a.output)) }
 {
     let mut names = Names::for_text(alloc, file)?;
     match load_text(alloc, file, &mut names) {
-        Ok(loaded) => answer_goal(alloc, names, &loaded, goal),
+        Ok(loaded) => answer_goal(alloc, names, &loaded, goal, limits),
         Err(refused) => module_refusal(alloc, refused),
     }
 }

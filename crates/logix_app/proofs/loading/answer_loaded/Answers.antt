@@ -1,7 +1,4 @@
-use Rattle.std.proofs.Common.{[], sym, ◌∙◌, subst}
-use Rattle.fcp_model.specs.ReportText.{goal_variables}
-use Rattle.fcp_model.specs.Reports.{IsOneWorkerReport}
-use Rattle.fcp_model.specs.Translation.{program_of, start_of}
+use Rattle.std.proofs.Common.{sym, ◌∙◌}
 use Rattle.logix_app.proofs.Loaded.{plain-module, plain-goal, ran}
 use Rattle.logix_app.proofs.loading.answer_loaded.Goals as goal
 
@@ -15,10 +12,5 @@ run_goal-requires-clause-plain_goal c =
 
 pub returns-in_ok-outcome : goal.returns-in_ok-outcome
 returns-in_ok-outcome c file text loaded =
-    let m = c.args.loaded.now in
-    let g = c.args.goal.now in
-    let outcome = c.in_ok-outcome.field-0.outcome in
-    let bytes = c.in_ok-outcome.field-0.text.items in
-    ran file text m g c.args.names.now outcome bytes loaded (sym c.is_runnable.ensures ∙ c.if-is_runnable.true)
-    (subst (λ limits. IsOneWorkerReport (program_of m) (start_of m g) limits [] c.args.names.now (goal_variables g.names) outcome bytes)
-    c.limits.ensures c.in_ok-outcome.ensures)
+    ran c.args.limits file text c.args.loaded.now c.args.goal.now c.args.names.now c.in_ok-outcome.field-0.outcome
+    c.in_ok-outcome.field-0.text.items loaded (sym c.is_runnable.ensures ∙ c.if-is_runnable.true) c.in_ok-outcome.ensures

@@ -3,5 +3,6 @@ use Rattle.logix_app.proofs.loading.answer_run.Goals as goal
 
 pub returns-in-Err : goal.returns-in-Err
 returns-in-Err c =
-    refused-run c.args.file.now c.args.goal.now c.load_text.new.names c.in-Err.refused c.module_refusal.result c.in-Err.ensures.loads
+    refused-run c.args.limits
+    c.args.file.now c.args.goal.now c.load_text.new.names c.in-Err.refused c.module_refusal.result c.in-Err.ensures.loads
     c.module_refusal.ensures

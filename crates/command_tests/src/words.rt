@@ -1,0 +1,166 @@
+//! Lines of words with what they ask for, which the kit's parser of command lines reads in the same way.
+use clap::{Arg, ArgMatches, Command, Error};
+use command_words::{Order, WordFault, read_words};
+use std::alloc::Global;
+use std::test::Fail;
+
+/// Lines that ask for something, each with the command, the positional words, and the values of `--commits`, `--moves` and
+/// `--cells` as they were written, or `-`.
+const READ: &[(&str, &str)] = &[
+    ("run f p", "run f p - - -"),
+    ("show f", "show f"),
+    ("run --commits 5 f p", "run f p 5 - -"),
+    ("run f --commits 5 p", "run f p 5 - -"),
+    ("run f p --commits 5", "run f p 5 - -"),
+    ("run --moves=7 f p", "run f p - 7 -"),
+    ("run f --moves=7 p", "run f p - 7 -"),
+    ("run f p --moves=7", "run f p - 7 -"),
+    ("run --cells 1 --moves 2 --commits 3 f p", "run f p 3 2 1"),
+    ("run --cells=1 f --moves 2 p --commits=3", "run f p 3 2 1"),
+    ("run f p --commits=005 --moves 0", "run f p 005 0 -"),
+    ("run f p --cells=64000000", "run f p - - 64000000"),
+    ("run f p --commits 00000005", "run f p 00000005 - -"),
+    ("run run show", "run run show - - -"),
+    ("show show", "show show"),
+    ("run f =", "run f = - - -"),
+    ("run f p-q", "run f p-q - - -"),
+];
+
+/// Lines that ask for nothing.
+const UNREAD: &[&str] = &[
+    "",
+    "run",
+    "run f",
+    "run f p q",
+    "show",
+    "show f g",
+    "help",
+    "run  p",
+    "run f p ",
+    "run f p --commits",
+    "run f p --commits=",
+    "run f p --commits= 5",
+    "run f p --commits +5",
+    "run f p --commits 5 --commits=5",
+    "run f p --commit 5",
+    "run f p --commits --moves 5",
+    "run f p --commits=-5",
+    "run f p --commits 000000005",
+    "run f p --commits 1000001",
+    "run f p --moves 1000001",
+    "run f p --cells 64000001",
+    "run f p --workers 1",
+    "run f p --",
+    "run -- f p",
+    "run - p",
+    "run f -p",
+    "run f p --help",
+    "show f --commits 5",
+    "--commits 5 run f p",
+];
+
+/// The words of a line, with one space between two.
+fn words_in(alloc: Global, line: &str) -> Result<Vec<String>, Fail> {
+    let mut words = Vec::new(alloc);
+    for word in line.split(' ') {
+        words.push(String::from_str(alloc, word)?)?;
+    }
+    Ok(words)
+}
+
+/// The number of a value that was written, or the default where `-` stands.
+fn number(value: Option<&str>, default: u32) -> Option<u32> {
+    match value {
+        Some("-") => Some(default),
+        Some(digits) => digits.parse().ok(),
+        None => None,
+    }
+}
+
+/// Whether an order is the one of a row.
+fn is_asked(order: &Order, wanted: &str) -> bool {
+    let mut parts = wanted.split(' ');
+    let command = parts.next();
+    let file = parts.next();
+    match order {
+        Order::Run {
+            file: name,
+            goal,
+            limits,
+        } => {
+            command == Some("run")
+                && file == Some(name.as_str())
+                && parts.next() == Some(goal.as_str())
+                && number(parts.next(), 1_000_000) == Some(limits.commits)
+                && number(parts.next(), 1_000_000) == Some(limits.moves)
+                && number(parts.next(), 8_000_000) == Some(limits.cells)
+        }
+        Order::Show { file: name } => command == Some("show") && file == Some(name.as_str()),
+    }
+}
+
+#[test]
+fn lines_that_ask_for_something(rt: HostRuntime) -> Result<(), Fail> {
+    for (line, wanted) in READ {
+        let words = words_in(rt.alloc(), line)?;
+        let order = read_words(rt.alloc(), words.as_slice()).expect(&rt, line);
+        assert!(rt; is_asked(&order, wanted), "{line}");
+    }
+    Ok(())
+}
+
+#[test]
+fn lines_that_ask_for_nothing(rt: HostRuntime) -> Result<(), Fail> {
+    for line in UNREAD {
+        let words = words_in(rt.alloc(), line)?;
+        let given = read_words(rt.alloc(), words.as_slice()).err();
+        assert_eq!(rt; given, Some(WordFault::Usage), "{line}");
+    }
+    assert_eq!(rt; read_words(rt.alloc(), &[]).err(), Some(WordFault::Usage));
+    Ok(())
+}
+
+/// The two commands for `clap`.
+fn commands<'a>(alloc: Global) -> Result<Command<'a>, Error> {
+    let run = Command::new(alloc, "run")
+        .arg(Arg::new(alloc, "file"))?
+        .arg(Arg::new(alloc, "goal"))?
+        .arg(Arg::new(alloc, "commits").long("commits"))?
+        .arg(Arg::new(alloc, "moves").long("moves"))?
+        .arg(Arg::new(alloc, "cells").long("cells"))?;
+    let show = Command::new(alloc, "show").arg(Arg::new(alloc, "file"))?;
+    let logix = Command::new(alloc, "logix")
+        .no_binary_name(true)
+        .disable_help_flag(true)
+        .disable_help_subcommand(true)
+        .subcommand(run)?
+        .subcommand(show)?;
+    Ok(logix)
+}
+
+/// Whether a command of `clap` has just what a row wants.
+fn has_values(command: &str, matches: &ArgMatches<'_>, wanted: &str) -> bool {
+    let mut parts = wanted.split(' ');
+    if parts.next() != Some(command) || parts.next() != matches.get_str("file") {
+        return false;
+    }
+    command == "show"
+        || (parts.next() == matches.get_str("goal")
+            && parts.next() == Some(matches.get_str("commits").unwrap_or("-"))
+            && parts.next() == Some(matches.get_str("moves").unwrap_or("-"))
+            && parts.next() == Some(matches.get_str("cells").unwrap_or("-")))
+}
+
+#[test]
+fn clap_reads_the_same(rt: HostRuntime) -> Result<(), Fail> {
+    for (line, wanted) in READ {
+        let words = words_in(rt.alloc(), line)?;
+        let commands = commands(rt.alloc()).expect(&rt, line);
+        let matches = commands
+            .try_get_matches_from(words.as_slice())
+            .expect(&rt, line);
+        let (command, given) = matches.subcommand().expect(&rt, line);
+        assert!(rt; has_values(command, given, wanted), "{line}");
+    }
+    Ok(())
+}
