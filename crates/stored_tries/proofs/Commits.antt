@@ -61,7 +61,7 @@ module _ {S : Type 0} {addresses : S → ℕ} {sound : S → Type 0} {knows : S 
   binds = of_store r.binds
 
   -- a place is bound where an unbound word was seen
-  own_word : (a x : ℕ) → 4000000000 ≤ a → word_at r.binds a ≡ Some x → (y e : ℕ) × (own_words r.pieces a ≡ Some y)
+  pub own_word : (a x : ℕ) → 4000000000 ≤ a → word_at r.binds a ≡ Some x → (y e : ℕ) × (own_words r.pieces a ≡ Some y)
       × (decoded y ≡ Some (Unbound e))
   own_word a x l e = go (word_at kept a) refl (safe.bound_open a x e)
     where
@@ -80,7 +80,7 @@ module _ {S : Type 0} {addresses : S → ℕ} {sound : S → Type 0} {knows : S 
           ∙ (sym (ap (λ (o : Option ℕ). first_some o (own_words r.pieces a)) i) ∙ k.2) in cc)
 
   -- a bound place that is an own one is the place of a piece
-  own_place : (a x : ℕ) → 4000000000 ≤ a → word_at r.binds a ≡ Some x → (s v : ℕ) × (a ≡ suc s)
+  pub own_place : (a x : ℕ) → 4000000000 ≤ a → word_at r.binds a ≡ Some x → (s v : ℕ) × (a ≡ suc s)
       × StartsAt 4000000000 r.pieces s (0 ∷ v ∷ [])
   own_place a x l e = go (safe.led.places a x e).0
     where

@@ -13,7 +13,7 @@ use Rattle.try_desk.proofs.Cutting.{end_cut}
 use Rattle.try_desk.specs.Cuts.{cut, total}
 
 -- the pieces in which the one at s has become the place with the word x
-pub filled : (b : ℕ) (ps : List (List ℕ)) (s x : ℕ) → StartsAt b ps s (0 ∷ 0 ∷ []) → List (List ℕ)
+unfoldable pub filled : (b : ℕ) (ps : List (List ℕ)) (s x : ℕ) → StartsAt b ps s (0 ∷ 0 ∷ []) → List (List ℕ)
 filled b [] s x h = absurd h
 filled b (q ∷ ps) s x (inl h) = (0 ∷ x ∷ []) ∷ ps
 filled b (q ∷ ps) s x (inr h) = q ∷ filled (b + length q) ps s x h

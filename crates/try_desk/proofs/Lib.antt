@@ -7,3 +7,4 @@ pub mod Constants
 pub mod Opened
 pub mod Sizes
 pub mod OpenedTuples
+pub mod Settling

@@ -1,9 +1,10 @@
 //! A try's own pieces: their words one after another, and the sizes of the pieces.
-ghost use Rattle.std.specs.Prelude.{◌≡◌, ◌++◌, ◌+◌, ◌-◌, ◌<◌, ◌≤◌, [], ◌∷◌, ℕ, length, take, IfOk, OnOk, MatchResult};
+ghost use Rattle.std.specs.Prelude.{◌≡◌, ◌++◌, ◌+◌, ◌-◌, ◌<◌, ◌≤◌, [], ◌∷◌, ℕ, suc, Some, length, take, IfOk, OnOk, MatchResult};
 ghost use Rattle.std.specs.List.{concat};
-ghost use Rattle.heap_words.specs.Trails.{word_at};
+ghost use Rattle.heap_words.specs.Trails.{word_at, AreOnce};
 ghost use Rattle.word_states.specs.Pieces.{rows, StartsAt};
 ghost use Rattle.trial_laws.specs.AtHand.{end_of, ArePieces};
+ghost use Rattle.trial_laws.specs.Endings.{settled};
 ghost use Rattle.trial_laws.specs.Laws.{IsFilled, places_for};
 ghost use Rattle.beside_words.specs.Besides.{own_at};
 ghost use Rattle.try_desk.specs.Cuts.{cut, total};
@@ -160,6 +161,31 @@ impl Pieces {
         ensures { IsFilled (addr - 1) word self.old self.new }
     {
         self.words[(addr - OWN) as usize] = word;
+    }
+
+    /// An own place, which is unbound, takes the word to which it is bound. The address is that of the place's word.
+    fn settle_place(&mut self, addr: u32, word: u64)
+        requires above { 4000000000 < addr }
+        requires place { StartsAt 4000000000 self.old (addr - 1) (0 ∷ 0 ∷ []) }
+        ensures { self.new ≡ settled ((addr, word) ∷ []) 4000000000 self.old }
+    {
+        self.words[(addr - OWN) as usize] = word;
+    }
+
+    /// Each own place that is bound takes its word. All of them are unbound so far, and each is bound once; bindings of other places
+    /// change nothing.
+    pub fn settle(&mut self, binds: &[(u32, u64)])
+        requires places { (a x : ℕ) → word_at binds.now a ≡ Some x → 4000000000 ≤ a
+            → (s : ℕ) × (a ≡ suc s) × StartsAt 4000000000 self.old s (0 ∷ 0 ∷ []) }
+        requires once { AreOnce binds.now }
+        ensures { self.new ≡ settled binds.now 4000000000 self.old }
+    {
+        for bind in binds {
+            let (addr, word) = *bind;
+            if addr >= OWN {
+                self.settle_place(addr, word);
+            }
+        }
     }
 
     /// Puts so many places after the other pieces: each a name and a word, both 0 so far.

@@ -22,7 +22,9 @@ fn laid(alloc: Global, pages: u32, sizes: &[u32]) -> Result<Layout, NoMemory>
     let mut trail = Trail::make(alloc)?;
     let mut rooms = Vec::new(alloc);
     let mut table = Vec::new(alloc);
-    let all = lay(&mut heap, &mut trail, &mut rooms, &mut table, 0, pages, sizes)?;
+    let all = lay(
+        &mut heap, &mut trail, &mut rooms, &mut table, 0, pages, sizes,
+    )?;
     Ok(Layout { rooms, table, all })
 }
 

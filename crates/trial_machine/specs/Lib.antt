@@ -1,0 +1,6 @@
+pub mod Machines
+pub mod Stores
+pub mod Sides
+pub mod Running
+pub mod Goals
+pub mod Deciding

@@ -1,0 +1,19 @@
+//! The machine that follows compiled code over words.
+#![tactic(auto)]
+
+mod decide;
+mod goal;
+mod leave;
+mod machine;
+mod open;
+mod open_tuple;
+mod places;
+mod put;
+mod run;
+mod spawn;
+mod step;
+mod tests;
+mod unify;
+
+pub use decide::Decided;
+pub use machine::Machine;
