@@ -15,7 +15,8 @@ use Rattle.heap_words.specs.declared.cell.Cell.TheVariants.{Raw, Small, Status}
 use Rattle.heap_words.specs.declared.cell.Stand.TheVariants.{Ready}
 use Rattle.word_states.specs.Words.{Words, AreDistinct}
 use Rattle.word_states.specs.Denoting.{Addresses}
-use Rattle.word_states.specs.Pieces.{StartsAt, IsPiece, a_place, a_pair, a_tuple, a_wide, a_process, is_process, process_words, with_own, with_variables}
+use Rattle.word_states.specs.Pieces.{StartsAt, IsPiece, a_place, a_pair, a_tuple, a_wide, a_process, is_process, process_words, with_own}
+use Rattle.word_states.specs.Pieces.{with_variables}
 use Rattle.word_states.specs.Trials.{WaitSays}
 use Rattle.word_states.proofs.Pieces.{nine_is}
 use Rattle.machine_code.specs.Instructions.{Op, Commit}

@@ -48,7 +48,8 @@ slot_steady c kept at n r i x o h τ safe fresh leads = record {
   fresh = fresh;
   next_fresh = h.next_fresh;
   places = h.places;
-  follows = λ w vs bound g t. let f = h.follows w vs bound g t in let l = leads w vs bound g t f (the_store kept c.process w vs bound g t) in record {
+  follows = λ w vs bound g t. let f = h.follows w vs bound g t in let l = leads w vs bound g t f
+      (the_store kept c.process w vs bound g t) in record {
     state = record f.state { slots = l.slots };
     stands = l.stands;
     rests = f.rests;
@@ -84,7 +85,8 @@ piece_steady c kept at n r p i x o h τ final no_place no_process safe fresh lea
   fresh = fresh;
   next_fresh = h.next_fresh;
   places = places_left 4000000000 r.pieces p no_place ∙ h.places;
-  follows = λ w vs bound g t. let f = h.follows w vs bound g t in let l = leads w vs bound g t f (the_store kept c.process w vs bound g t) in record {
+  follows = λ w vs bound g t. let f = h.follows w vs bound g t in let l = leads w vs bound g t f
+      (the_store kept c.process w vs bound g t) in record {
     state = record f.state { slots = l.slots };
     stands = l.stands;
     rests = on_base (λ b. StandsForTry w vs bound b (record f.state { slots = arguments (arguments_of g) })) f.rests;

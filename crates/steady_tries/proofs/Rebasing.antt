@@ -19,7 +19,8 @@ use Rattle.steady_tries.proofs.Going.{the_store}
 
 -- wherever the process has a goal, the instruction leads on
 abbrev pub LeadsAnywhere : Course → WordList → ℕ → ℕ → AtHand → ℕ → AtHand → Type 0
-LeadsAnywhere c kept at n r at' r' = (w : Words) (vs : Addresses) (bound : Bindings) (g : Goal Variable) → IsTried kept c.process w vs bound g
+LeadsAnywhere c kept at n r at' r' = (w : Words) (vs : Addresses) (bound : Bindings) (g : Goal Variable) → IsTried kept c.process w vs
+    bound g
     → (f : Follows c w vs bound (arguments_of g) at n r) → IsStore w vs bound → Leads w vs bound c.ops (arguments_of g) at f.state at' r'
 
 pub rebased : (c : Course) (kept : WordList) (at n : ℕ) (r : AtHand) (at' : ℕ) (r' : AtHand) (τ : Tops) (q : ℕ)

@@ -26,7 +26,8 @@ use Rattle.steady_tries.proofs.Rebasing.{rebased}
 
 pub otherwise_steady : SteadyOtherwise
 otherwise_steady c kept at n r course h e behind =
-    rebased c kept at n r (suc at) r h.tops h.released course h h.safe (fresh_here c.ops at h.tops h.released Otherwise e h.fresh) refl refl refl
+    rebased c kept at n r (suc at) r h.tops h.released course h h.safe (fresh_here c.ops at h.tops h.released Otherwise e h.fresh) refl
+        refl refl
     (λ w vs bound g t f store. otherwise_leads w vs bound c.ops (arguments_of g) at r f.state store h.safe.led.pieces f.stands e behind)
 
 pub variable_steady : SteadyVariable
@@ -55,7 +56,8 @@ wide_steady c kept at n r course h i x k z low e small same long upper room =
     piece_steady c kept at n r (x ∷ []) i _ false h (topped h.tops i 0) (final, tt) (no_place x [] final) (no_process x [] final)
     (safe_wide kept r h.tops h.released h.safe i x k low small upper room)
     (fresh_here c.ops at h.tops h.released (PutWord i (number z)) e h.fresh)
-    (λ w vs bound g t f store. wide_leads w vs bound c.ops (arguments_of g) at r f.state store h.safe.led.pieces f.stands i x k z low e small
+    (λ w vs bound g t f store. wide_leads w vs bound c.ops (arguments_of g) at r f.state store h.safe.led.pieces f.stands i x k z low e
+        small
     same long upper room)
 
 pub pair_steady : SteadyPair
@@ -66,7 +68,8 @@ pair_steady c kept at n r course h i left right e room =
     (one, (two, tt)) (no_place (term_word r left) (term_word r right ∷ []) one) (no_process (term_word r left) (term_word r right ∷ []) one)
     (safe_pair kept r h.tops h.released h.safe i left right room)
     (fresh_here c.ops at h.tops h.released (PutCons i left right) e h.fresh)
-    (λ w vs bound g t f store. pair_leads w vs bound c.ops (arguments_of g) at r f.state store h.safe.led.pieces f.stands i left right e room)
+    (λ w vs bound g t f store. pair_leads w vs bound c.ops (arguments_of g) at r f.state store h.safe.led.pieces f.stands i left right
+        e room)
 
 pub tuple_steady : SteadyTuple
 tuple_steady c kept at n r course h i from parts e few room =
@@ -76,7 +79,8 @@ tuple_steady c kept at n r course h i from parts e few room =
     (no_process (encoded (Raw parts)) (term_words r from parts) raw)
     (safe_tuple kept r h.tops h.released h.safe i from parts few room)
     (fresh_here c.ops at h.tops h.released (PutTuple i from parts None) e h.fresh)
-    (λ w vs bound g t f store. tuple_leads w vs bound c.ops (arguments_of g) at r f.state store h.safe.led.pieces f.stands i from parts e few
+    (λ w vs bound g t f store. tuple_leads w vs bound c.ops (arguments_of g) at r f.state store h.safe.led.pieces f.stands i from parts
+        e few
     room)
 
 pub operation_steady : SteadyOperation

@@ -79,7 +79,8 @@ SteadyUnified = Steadily (λ c kept at n r. (i j : ℕ) (bs : WordList) (rs : Li
 
 -- where what a try read is noted beside what was, each is an unbound place of the store that was kept
 abbrev pub AllNoted : Type 0
-AllNoted = Steadily (λ c kept at n r. (rs waits : List ℕ) → ((a : ℕ) → IsIn a rs → a < 4000000000 → SawOpen kept r a) → AreNoted r.waits rs waits
+AllNoted = Steadily (λ c kept at n r. (rs waits : List ℕ) → ((a : ℕ) → IsIn a rs → a < 4000000000 → SawOpen kept r a) → AreNoted
+    r.waits rs waits
     → (a : ℕ) → IsIn a waits → KeptOpen kept a)
 
 -- it clashes or waits, and the try is left, once it is safe to hold nothing but the arguments

@@ -35,7 +35,8 @@ arguments_of (assigns t e) = t ∷ []
 
 -- so wherever words have what was kept, and the process has a goal
 abbrev pub Wherever : Course → WordList → (Words → Addresses → Bindings → Goal Variable → Type 0) → Type 0
-Wherever c kept P = (w : Words) (vs : Addresses) (bound : Bindings) (g : Goal Variable) → IsTried kept c.process w vs bound g → P w vs bound g
+Wherever c kept P = (w : Words) (vs : Addresses) (bound : Bindings) (g : Goal Variable) → IsTried kept c.process w vs bound g → P w vs
+    bound g
 
 -- The words of the arguments were kept, and wherever the process has a goal they are those of its arguments.
 pub record IsCourse (c : Course) (kept : WordList) : Type 0 where

@@ -57,7 +57,8 @@ SteadyTuple = Steadily (λ c kept at n r. (i from parts : ℕ) → slice_get c.o
     (holding (with_piece r (encoded (cell.Raw parts) ∷ term_words r from parts)) i (encoded (cell.Tuple (next_piece r))) false))
 
 abbrev pub SteadyOperation : Type 0
-SteadyOperation = Steadily (λ c kept at n r. (i from : ℕ) (o : ArithOp) → slice_get c.ops at ≡ Some (PutTuple i from 2 (Some o)) → HasRoom r 3
+SteadyOperation = Steadily (λ c kept at n r. (i from : ℕ) (o : ArithOp) → slice_get c.ops at ≡ Some (PutTuple i from 2
+    (Some o)) → HasRoom r 3
     → IsSteady c kept (suc at) n
     (holding (with_piece r (encoded (cell.Raw (66 + operator_code o)) ∷ r.slots from ∷ r.slots (suc from) ∷ [])) i
     (encoded (cell.Tuple (next_piece r))) true))

@@ -40,7 +40,8 @@ steps_turned t s old new at next i turn.On e more h = steps_next t s old new at 
 steps_turned t s old new at next i turn.Left e more h = λ f same way. h f at way (in_frame t s f at i same e)
 
 -- it opened a value, or led to where the term is put
-pub steps_opened : (t : Tables) → IsSound t → (old new : Machine) (at next put : ℕ) (i : Instr) (x : Opened) → slice_get t.instrs at ≡ Some i
+pub steps_opened : (t : Tables) → IsSound t → (old new : Machine) (at next put : ℕ) (i : Instr)
+    (x : Opened) → slice_get t.instrs at ≡ Some i
     → next ≡ at + 1 → at < put → Opens old new (op_of t.smalls t.steps i) put x → Steps t old new at (step_opened x next put)
 steps_opened t s old new at next put i opened.Taken e more behind h = steps_next t s old new at next i e more h
 steps_opened t s old new at next put i opened.Other e more behind h = λ f same way. (behind, h f at way (in_frame t s f at i same e))

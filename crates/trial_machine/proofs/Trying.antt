@@ -38,7 +38,8 @@ pub ready_at : (t : Tables) (procedure at to : ℕ) (m m' : Machine) → IsReady
 ready_at t procedure at to m m' r go = record { frame = r.frame; of_code = r.of_code; rests = go r.frame r.of_code r.rests }
 
 -- a jump between two tries
-pub rest_jumps : (t : Tables) → IsSound t → (at to : ℕ) (m : Machine) → slice_get t.instrs at ≡ Some (instr.Jump to) → (procedure : ℕ) (f : Frame)
+pub rest_jumps : (t : Tables) → IsSound t → (at to : ℕ) (m : Machine) → slice_get t.instrs at ≡ Some (instr.Jump to) → (procedure : ℕ)
+    (f : Frame)
     → IsFrameOf t procedure f → IsResting f at m → IsResting f to m
 rest_jumps t s at to m e procedure f code r = record {
   on_course = r.on_course;
@@ -53,7 +54,8 @@ steps_as t old new at s r e h = subst (Steps t old new at) e h
 module _ (t : Tables) (s : IsSound t) (m m' : Machine) (at inner clause next vars procedure : ℕ)
     (e : slice_get t.instrs at ≡ Some (instr.Try clause next)) (more : inner ≡ at + 1)
     (known : vars ≡ unwrap_or (option_map (λ c. c.vars) (clause_at t.procedures procedure clause)) 0)
-    (begins : (f : Frame) (a : ℕ) → IsResting f a m → slice_get f.ops a ≡ Some (Try clause next) → f.vars clause ≡ vars → IsOnWay f (suc a) m')
+    (begins : (f : Frame) (a : ℕ) → IsResting f a m → slice_get f.ops a ≡ Some (Try clause next) → f.vars clause ≡ vars → IsOnWay f
+        (suc a) m')
   where
     pub tries : (f : Frame) → IsFrameOf t procedure f → IsResting f at m → IsOnWay f inner m'
     tries f code r =

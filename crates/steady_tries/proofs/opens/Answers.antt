@@ -1,4 +1,5 @@
-use Rattle.steady_tries.proofs.Opening.{pair_opened_steady, no_pair_stands, no_pair_steady, tuple_opened_steady, no_tuple_stands, no_tuple_steady}
+use Rattle.steady_tries.proofs.Opening.{pair_opened_steady, no_pair_stands, no_pair_steady, tuple_opened_steady, no_tuple_stands}
+use Rattle.steady_tries.proofs.Opening.{no_tuple_steady}
 use Rattle.steady_tries.proofs.opens.Goals as goal
 
 pub returns-clause-pair : goal.returns-clause-pair
