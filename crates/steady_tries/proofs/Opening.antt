@@ -74,7 +74,7 @@ held_rest r i (x ∷ xs) P h = held_rest (holding r i x false) (suc i) xs P h
 pub tuple_opened_steady : SteadyTupleOpened
 tuple_opened_steady c kept at n r course h i first parts put xs e small p terms =
     subst (λ k. IsSteady c kept (suc at) k (holding_all r first xs)) (held_rest r first xs (λ z. length z.pieces ≡ length r.pieces)
-        (λ s o. refl))
+    (λ s o. refl))
     (rebased c kept at n r (suc at) (holding_all r first xs) (all_topped h.tops first parts (h.tops i)) h.released course h
     opened (λ m. (fresh_here c.ops at h.tops h.released (GetTuple i first parts put) e h.fresh m).0)
     (held_rest r first xs (λ z. z.next ≡ r.next) (λ s o. refl)) (held_rest r first xs (λ z. z.clause ≡ r.clause) (λ s o. refl))
@@ -95,7 +95,7 @@ held_before : (xs : List ℕ) (r : AtHand) (i j : ℕ) → j < i → (holding_al
 held_before [] r i j l = refl
 held_before (x ∷ xs) r i j l =
     held_before xs (holding r i x false) (suc i) j (omega (arith, l)) ∙ ap (λ b. cond b x (r.slots j)) (ne_eqb j i (λ e. omega
-        (arith, l, e)))
+    (arith, l, e)))
 
 held_terms : (xs : List ℕ) (r : AtHand) (i : ℕ) → ((j : ℕ) → IsTermWord ((holding_all r i xs).slots j)) → AreTermWords xs
 held_terms [] r i h = tt
@@ -115,7 +115,7 @@ no_tuple_stands c kept at n r course h i first parts put xs e p not w vs bound g
     let ys = words_after (memory_of (with_own r.pieces w)) q.1 parts in
     let s = terms_stand w vs bound [] [] 0 (holding_all r 0 (words_after (memory_of (with_own r.pieces w)) q.1 parts)) l.state store
     (held_rest r 0 (words_after (memory_of (with_own r.pieces w)) q.1 parts) (λ z. ArePieces z.pieces)
-        (λ s o. h.safe.led.pieces)) l.stands in
+    (λ s o. h.safe.led.pieces)) l.stands in
     not (subst AreTermWords q.5 (held_terms (words_after (memory_of (with_own r.pieces w)) q.1 parts) r 0 s.0))
 
 pub no_tuple_steady : SteadyNoTuple

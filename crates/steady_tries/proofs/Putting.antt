@@ -50,11 +50,11 @@ slot_steady c kept at n r i x o h τ safe fresh leads = record {
   places = h.places;
   follows = λ w vs bound g t. let f = h.follows w vs bound g t in let l = leads w vs bound g t f
       (the_store kept c.process w vs bound g t) in record {
-    state = record f.state { slots = l.slots };
-    stands = l.stands;
-    rests = f.rests;
-    gives = λ d q. f.gives d (l.gives d q);
-  };
+        state = record f.state { slots = l.slots };
+        stands = l.stands;
+        rests = f.rests;
+        gives = λ d q. f.gives d (l.gives d q);
+      };
 }
 
 -- a term piece behind the others
@@ -87,11 +87,11 @@ piece_steady c kept at n r p i x o h τ final no_place no_process safe fresh lea
   places = places_left 4000000000 r.pieces p no_place ∙ h.places;
   follows = λ w vs bound g t. let f = h.follows w vs bound g t in let l = leads w vs bound g t f
       (the_store kept c.process w vs bound g t) in record {
-    state = record f.state { slots = l.slots };
-    stands = l.stands;
-    rests = on_base (λ b. StandsForTry w vs bound b (record f.state { slots = arguments (arguments_of g) })) f.rests;
-    gives = λ d q. f.gives d (l.gives d q);
-  };
+        state = record f.state { slots = l.slots };
+        stands = l.stands;
+        rests = on_base (λ b. StandsForTry w vs bound b (record f.state { slots = arguments (arguments_of g) })) f.rests;
+        gives = λ d q. f.gives d (l.gives d q);
+      };
 }
   where
     on_base : (P : AtHand → Type 0) → P (base_of c n r) → P (base_of c n (holding (with_piece r p) i x o))

@@ -86,4 +86,4 @@ pub stands_based : (w : Words) (vs : Addresses) (bound : Bindings) (c : Course) 
     → StandsForTry w vs bound (base_of c (length r.pieces) r) (record t { slots = arguments args })
 stands_based w vs bound c r t args store named s =
     based (λ b. StandsForTry w vs bound b (record t { slots = arguments args })) c r (stands_rested w vs bound r t args c.words store
-        named s)
+    named s)

@@ -27,7 +27,7 @@ use Rattle.steady_tries.proofs.Rebasing.{rebased}
 pub otherwise_steady : SteadyOtherwise
 otherwise_steady c kept at n r course h e behind =
     rebased c kept at n r (suc at) r h.tops h.released course h h.safe (fresh_here c.ops at h.tops h.released Otherwise e h.fresh) refl
-        refl refl
+    refl refl
     (λ w vs bound g t f store. otherwise_leads w vs bound c.ops (arguments_of g) at r f.state store h.safe.led.pieces f.stands e behind)
 
 pub variable_steady : SteadyVariable
@@ -57,7 +57,7 @@ wide_steady c kept at n r course h i x k z low e small same long upper room =
     (safe_wide kept r h.tops h.released h.safe i x k low small upper room)
     (fresh_here c.ops at h.tops h.released (PutWord i (number z)) e h.fresh)
     (λ w vs bound g t f store. wide_leads w vs bound c.ops (arguments_of g) at r f.state store h.safe.led.pieces f.stands i x k z low e
-        small
+    small
     same long upper room)
 
 pub pair_steady : SteadyPair
@@ -69,7 +69,7 @@ pair_steady c kept at n r course h i left right e room =
     (safe_pair kept r h.tops h.released h.safe i left right room)
     (fresh_here c.ops at h.tops h.released (PutCons i left right) e h.fresh)
     (λ w vs bound g t f store. pair_leads w vs bound c.ops (arguments_of g) at r f.state store h.safe.led.pieces f.stands i left right
-        e room)
+    e room)
 
 pub tuple_steady : SteadyTuple
 tuple_steady c kept at n r course h i from parts e few room =
@@ -80,7 +80,7 @@ tuple_steady c kept at n r course h i from parts e few room =
     (safe_tuple kept r h.tops h.released h.safe i from parts few room)
     (fresh_here c.ops at h.tops h.released (PutTuple i from parts None) e h.fresh)
     (λ w vs bound g t f store. tuple_leads w vs bound c.ops (arguments_of g) at r f.state store h.safe.led.pieces f.stands i from parts
-        e few
+    e few
     room)
 
 pub operation_steady : SteadyOperation

@@ -112,7 +112,7 @@ fails_steady c kept at n r course h k x y rs waits e sides t noted safe =
     let d = tested_so w vs bound r f.state store h.safe.led.pieces f.stands k x y Not rs sides
     (t.tested (memory_of (with_own r.pieces w)) (tried_agrees kept c.process r w vs bound g h.safe.below u)) in
     fails_leads w vs bound c.ops (arguments_of g) at r f.state store h.safe.led.pieces f.stands
-        (Test k x y) d.more waits d.variables c.words
+    (Test k x y) d.more waits d.variables c.words
     e d.gives d.called (subst (λ z. AreNoted r.waits z waits) d.read noted) (course.named w vs bound g u))
 
 pub waits_steady : SteadyWaits
@@ -122,5 +122,5 @@ waits_steady c kept at n r course h k x y rs waits e sides t noted safe =
     let d = tested_so w vs bound r f.state store h.safe.led.pieces f.stands k x y Wait rs sides
     (t.tested (memory_of (with_own r.pieces w)) (tried_agrees kept c.process r w vs bound g h.safe.below u)) in
     waits_leads w vs bound c.ops (arguments_of g) at r f.state store h.safe.led.pieces f.stands
-        (Test k x y) d.more waits d.variables c.words
+    (Test k x y) d.more waits d.variables c.words
     e d.gives d.called (subst (λ z. AreNoted r.waits z waits) d.read noted) (course.named w vs bound g u))

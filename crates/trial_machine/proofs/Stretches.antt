@@ -9,7 +9,7 @@ module _ {S : Type 0} {addresses : S → ℕ} {is_sound : S → Type 0} {knows :
     (laws : WordsLaws addresses is_sound knows was_had leads own shown later gave) where
   pub twice_loaded : {kept kept1 kept2 : WordList} {w w1 w2 : S} → later w w1 → later w1 w2
       → Loads addresses is_sound was_had shown later gave kept w kept1 w1 → Loads addresses is_sound was_had shown later gave kept1 w1
-          kept2 w2
+      kept2 w2
       → Loads addresses is_sound was_had shown later gave kept w kept2 w2
   twice_loaded one two first second = record {
     stored = second.stored;

@@ -55,7 +55,7 @@ module _ (t : Tables) (s : IsSound t) (m m' : Machine) (at inner clause next var
     (e : slice_get t.instrs at ≡ Some (instr.Try clause next)) (more : inner ≡ at + 1)
     (known : vars ≡ unwrap_or (option_map (λ c. c.vars) (clause_at t.procedures procedure clause)) 0)
     (begins : (f : Frame) (a : ℕ) → IsResting f a m → slice_get f.ops a ≡ Some (Try clause next) → f.vars clause ≡ vars → IsOnWay f
-        (suc a) m')
+    (suc a) m')
   where
     pub tries : (f : Frame) → IsFrameOf t procedure f → IsResting f at m → IsOnWay f inner m'
     tries f code r =

@@ -12,7 +12,7 @@ loop-instr-preserved g c = record {
       c.loop-instr.invariant.on_way;
   ways = further c.args.code.now c.args.self.now c.loop-instr.self c.step.new.self c.args.from c.loop-instr.at c.in-To.next
       (steps_as c.args.code.now c.loop-instr.self c.step.new.self c.loop-instr.at _ _ c.in-To.is c.in_ok-next.ensures.steps)
-          c.loop-instr.invariant.ways;
+      c.loop-instr.invariant.ways;
   keeps = keeps_twice c.args.self.now c.loop-instr.self c.step.new.self c.loop-instr.invariant.keeps c.step.ensures.keeps;
 }
 

@@ -75,17 +75,17 @@ pub returns-in_ok-end-in-GetCons-clause-steps : goal.returns-in_ok-end-in-GetCon
 returns-in_ok-end-in-GetCons-clause-steps g c = subst (Steps c.args.code.now c.args.self.now c.open_pair.new.self c.args.at)
     (sym c.opened.ensures)
     (steps_opened c.args.code.now c.sound.ensures c.args.self.now c.open_pair.new.self c.args.at c.in-Some.next c.in-GetCons.put _ _
-        (c.requires.there ∙ ap Some c.in-GetCons.is) c.in-Some.ensures.1
+    (c.requires.there ∙ ap Some c.in-GetCons.is) c.in-Some.ensures.1
     (leads_at c.args.code.now c.sound.ensures c.args.at _ (c.requires.there ∙ ap Some c.in-GetCons.is))
-        c.in_ok-end-in-GetCons.ensures.opens)
+    c.in_ok-end-in-GetCons.ensures.opens)
 
 pub returns-in_ok-end-in-GetTuple-clause-steps : goal.returns-in_ok-end-in-GetTuple-clause-steps
 returns-in_ok-end-in-GetTuple-clause-steps g c = subst (Steps c.args.code.now c.args.self.now c.open_tuple.new.self c.args.at)
     (sym c.opened-in-GetTuple.ensures)
     (steps_opened c.args.code.now c.sound.ensures c.args.self.now c.open_tuple.new.self c.args.at c.in-Some.next c.in-GetTuple.put _ _
-        (c.requires.there ∙ ap Some c.in-GetTuple.is) c.in-Some.ensures.1
+    (c.requires.there ∙ ap Some c.in-GetTuple.is) c.in-Some.ensures.1
     (leads_at c.args.code.now c.sound.ensures c.args.at _ (c.requires.there ∙ ap Some c.in-GetTuple.is))
-        c.in_ok-end-in-GetTuple.ensures.opens)
+    c.in_ok-end-in-GetTuple.ensures.opens)
 
 pub returns-in_ok-put_variable-in-PutVar-clause-steps : goal.returns-in_ok-put_variable-in-PutVar-clause-steps
 returns-in_ok-put_variable-in-PutVar-clause-steps g c = steps_next c.args.code.now c.sound.ensures c.args.self.now
@@ -110,19 +110,19 @@ pub returns-in_ok-turn-in-Unify-clause-steps : goal.returns-in_ok-turn-in-Unify-
 returns-in_ok-turn-in-Unify-clause-steps g c = subst (Steps c.args.code.now c.args.self.now c.unify.new.self c.args.at)
     (sym c.turned.ensures)
     (steps_turned c.args.code.now c.sound.ensures c.args.self.now c.unify.new.self c.args.at c.in-Some.next _ _
-        (c.requires.there ∙ ap Some c.in-Unify.is) c.in-Some.ensures.1 c.in_ok-turn-in-Unify.ensures.turns)
+    (c.requires.there ∙ ap Some c.in-Unify.is) c.in-Some.ensures.1 c.in_ok-turn-in-Unify.ensures.turns)
 
 pub returns-in_ok-turn-in-Test-clause-steps : goal.returns-in_ok-turn-in-Test-clause-steps
 returns-in_ok-turn-in-Test-clause-steps g c = subst (Steps c.args.code.now c.args.self.now c.test.new.self c.args.at)
     (sym c.turned-in-Test.ensures)
     (steps_turned c.args.code.now c.sound.ensures c.args.self.now c.test.new.self c.args.at c.in-Some.next _ _
-        (c.requires.there ∙ ap Some c.in-Test.is) c.in-Some.ensures.1 c.in_ok-turn-in-Test.ensures.turns)
+    (c.requires.there ∙ ap Some c.in-Test.is) c.in-Some.ensures.1 c.in_ok-turn-in-Test.ensures.turns)
 
 pub returns-in_ok-turn-in-Otherwise-clause-steps : goal.returns-in_ok-turn-in-Otherwise-clause-steps
 returns-in_ok-turn-in-Otherwise-clause-steps g c = subst (Steps c.args.code.now c.args.self.now c.otherwise.new.self c.args.at)
     (sym c.turned-in-Otherwise.ensures)
     (steps_turned c.args.code.now c.sound.ensures c.args.self.now c.otherwise.new.self c.args.at c.in-Some.next _ _
-        (c.requires.there ∙ ap Some c.in-Otherwise.is) c.in-Some.ensures.1 c.in_ok-turn-in-Otherwise.ensures.turns)
+    (c.requires.there ∙ ap Some c.in-Otherwise.is) c.in-Some.ensures.1 c.in_ok-turn-in-Otherwise.ensures.turns)
 
 pub returns-in_ok-spawn-in-Spawn-clause-steps : goal.returns-in_ok-spawn-in-Spawn-clause-steps
 returns-in_ok-spawn-in-Spawn-clause-steps g c = steps_next c.args.code.now c.sound.ensures c.args.self.now c.spawn.new.self c.args.at
