@@ -1,13 +1,11 @@
 //! Tests of `page_layout`: where pieces go, and what a commit and a hang write.
-ghost use Rattle.std.specs.Prelude.{◌≤◌};
-
 use fcp_model::NoMemory;
 use heap_words::{Cell, PlainHeap, Stand, Trail, encode};
 use page_layout::{Room, Written, first_open, lay, put_commit, put_hang};
 use std::alloc::{AllocError, Global};
 use std::test::Fail;
 
-/// Where pieces of these sizes go in a new heap, if they find room.
+/// Where pieces of these sizes go in a new heap of three pages, if they find room.
 #[derive(Drop)]
 struct Layout {
     rooms: Vec<Room>,
@@ -15,28 +13,24 @@ struct Layout {
     all: bool,
 }
 
-fn laid(alloc: Global, pages: u32, sizes: &[u32]) -> Result<Layout, NoMemory>
-    requires { pages ≤ 3 }
-{
-    let mut heap = PlainHeap::make(alloc, pages)?;
+fn laid(alloc: Global, sizes: &[u32]) -> Result<Layout, NoMemory> {
+    let mut heap = PlainHeap::make(alloc, 3)?;
     let mut trail = Trail::make(alloc)?;
     let mut rooms = Vec::new(alloc);
     let mut table = Vec::new(alloc);
-    let all = lay(
-        &mut heap, &mut trail, &mut rooms, &mut table, 0, pages, sizes,
-    )?;
+    let all = lay(&mut heap, &mut trail, &mut rooms, &mut table, 0, 3, sizes)?;
     Ok(Layout { rooms, table, all })
 }
 
 #[test]
 fn a_piece_goes_to_the_first_page_with_room(rt: HostRuntime) -> Result<(), Fail> {
-    let four = laid(rt.alloc(), 3, &[1000, 100, 20, 500])?;
+    let four = laid(rt.alloc(), &[1000, 100, 20, 500])?;
     assert!(rt; four.all);
     assert_eq!(rt; four.table.get(0).copied(), Some(1));
     assert_eq!(rt; four.table.get(1000).copied(), Some(1025));
     assert_eq!(rt; four.table.get(1100).copied(), Some(1001));
     assert_eq!(rt; four.table.get(1120).copied(), Some(1125));
-    let full = laid(rt.alloc(), 3, &[1023, 1023, 1023, 1])?;
+    let full = laid(rt.alloc(), &[1023, 1023, 1023, 1])?;
     assert!(rt; !full.all);
     Ok(())
 }
@@ -45,7 +39,7 @@ fn a_piece_goes_to_the_first_page_with_room(rt: HostRuntime) -> Result<(), Fail>
 fn pages_that_were_looked_at_are_told_from_those_that_were_used(
     rt: HostRuntime,
 ) -> Result<(), Fail> {
-    let two = laid(rt.alloc(), 3, &[1000, 24])?;
+    let two = laid(rt.alloc(), &[1000, 24])?;
     assert_eq!(rt;
         two.rooms.as_slice(),
         [
@@ -62,7 +56,7 @@ fn pages_that_were_looked_at_are_told_from_those_that_were_used(
         ]
         .as_slice()
     );
-    let none = laid(rt.alloc(), 3, &[1000, 1024])?;
+    let none = laid(rt.alloc(), &[1000, 1024])?;
     assert!(rt; !none.all);
     assert_eq!(rt; none.rooms.len(), 3);
     assert!(rt; none.rooms[0].grew());
@@ -115,17 +109,29 @@ const THIRD: i64 = 3 * 268_435_456;
 #[test]
 fn a_commit_writes_what_it_binds_wakes_and_makes(rt: HostRuntime) -> Result<(), Fail> {
     let alloc = rt.alloc();
-    let layout = laid(alloc, 1, &[2, 5, 2])?;
-    assert!(rt; layout.all);
+    let mut heap = PlainHeap::make(alloc, 1)?;
+    let mut trail = Trail::make(alloc)?;
+    let mut rooms = Vec::new(alloc);
+    let mut table = Vec::new(alloc);
     let mut writes = Vec::new(alloc);
+    let all = lay(
+        &mut heap,
+        &mut trail,
+        &mut rooms,
+        &mut table,
+        0,
+        1,
+        &[2, 5, 2],
+    )?;
+    assert!(rt; all);
     // a place; a process with one argument, which is the place; a pair of the place and the empty list
     let own = [0, 0, 9, 0, 0x7a, 0x1a, 64_000_000_017, 64_000_000_017, 6];
-    assert_eq!(rt; layout.table.len(), 9);
+    assert_eq!(rt; table.len(), 9);
     let pair = encode(Cell::Cons(4_000_000_007));
     put_commit(
         &mut writes,
-        layout.rooms.as_slice(),
-        layout.table.as_slice(),
+        rooms.as_slice(),
+        table.as_slice(),
         600,
         &[(500, pair)],
         &[700],
@@ -158,13 +164,17 @@ fn a_commit_writes_what_it_binds_wakes_and_makes(rt: HostRuntime) -> Result<(), 
 #[test]
 fn a_hang_writes_an_entry_before_the_list_of_each_place(rt: HostRuntime) -> Result<(), Fail> {
     let alloc = rt.alloc();
-    let layout = laid(alloc, 1, &[3, 3])?;
-    assert!(rt; layout.all);
+    let mut heap = PlainHeap::make(alloc, 1)?;
+    let mut trail = Trail::make(alloc)?;
+    let mut rooms = Vec::new(alloc);
+    let mut table = Vec::new(alloc);
     let mut writes = Vec::new(alloc);
+    let all = lay(&mut heap, &mut trail, &mut rooms, &mut table, 0, 1, &[3, 3])?;
+    assert!(rt; all);
     put_hang(
         &mut writes,
-        layout.rooms.as_slice(),
-        layout.table.as_slice(),
+        rooms.as_slice(),
+        table.as_slice(),
         600,
         &[(500, 0), (510, 44)],
     )?;
