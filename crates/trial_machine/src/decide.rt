@@ -196,8 +196,9 @@ impl Machine {
         Err(NoMemory)
     }
 
-    /// Decides the process at an address, by words that it loads. The slots are as many as the code names, or more. After
-    /// `NoMemory` the machine decides other processes as before.
+    /// Decides the process at an address, by words that it loads. The slots are as many as the code names, or more. An assignment is
+    /// not decided yet: the answer is `NoMemory`, though memory is left. After `NoMemory` the machine decides other processes as
+    /// before.
     pub fn decide<W: Words>(
         &mut self,
         code: &Code,
