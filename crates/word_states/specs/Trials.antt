@@ -1,5 +1,5 @@
 -- What a trial answers: by the words that it read, whatever the others are.
-use Rattle.std.specs.Prelude.{◌≡◌, ℕ, ◌<◌, true, List, length, Some, None}
+use Rattle.std.specs.Prelude.{◌≡◌, ℕ, ◌<◌, true, List, [], ◌∷◌, length, Some, None}
 use Rattle.fcp_model.specs.declared.run.Place.{Place}
 use Rattle.fcp_model.specs.Places.{Variable, made, own, is_listed, places_among}
 use Rattle.fcp_model.specs.Terms.{Term, Bindings, find}
@@ -9,7 +9,7 @@ use Rattle.fcp_model.specs.Reads.{BindsPlaces}
 use Rattle.fcp_model.specs.Cells.{clause_used}
 use Rattle.fcp_model.specs.Events.{vars_of, body_of}
 use Rattle.heap_words.specs.Trails.{WordList, word_at}
-use Rattle.word_states.specs.Words.{Words, Among, AreApart, IsIn, AreDistinct}
+use Rattle.word_states.specs.Words.{Words, Among, AreApart, addresses_of, IsIn, AreDistinct}
 use Rattle.word_states.specs.Denoting.{Addresses, Listed, Denotes, GoalSays}
 use Rattle.word_states.specs.Standing.{PlacesStand, FreshSays}
 use Rattle.word_states.specs.Pieces.{rows, place_words, process_words, numbered, with_own, with_variables, ChildrenSay}
@@ -31,6 +31,18 @@ pub record IsTried (read : WordList) (p : ℕ) (w : Words) (vs : Addresses) (bou
   -- the process at p has the goal
   pub goal : GoalSays w vs p g
 
+-- the places of the state that were bound, in the order in which they were bound
+abbrev pub places_bound : Bindings → List Place
+places_bound [] = []
+places_bound ((made j, t) ∷ bs) = j ∷ places_bound bs
+places_bound ((own k, t) ∷ bs) = places_bound bs
+
+-- these places are at these addresses, one by one
+abbrev pub AreAt : Addresses → List ℕ → List Place → Type 0
+AreAt vs [] [] = Unit {0}
+AreAt vs (a ∷ as') (j ∷ js) = Listed vs (made j) a × AreAt vs as' js
+AreAt vs _ _ = ⊥
+
 -- Over these words, which stand for these bindings, the goal commits by clause k; the bindings and the pieces say what the try did.
 pub record CommitSays (m : Program) (w : Words) (vs : Addresses) (bound : Bindings) (g : Goal Variable) (k : ℕ) (binds : WordList)
     (ps : List (List ℕ)) : Type 0 where
@@ -43,6 +55,8 @@ pub record CommitSays (m : Program) (w : Words) (vs : Addresses) (bound : Bindin
       × (find bound (made j) ≡ None) × (word_at binds a ≡ Some x) × Denotes (with_own ps w) (with_variables ps vs) x t
   pub binds_only : (a x : ℕ) → word_at binds a ≡ Some x
       → (j : Place) × (t : Term Variable) × Listed vs (made j) a × (find bindings (made j) ≡ Some t)
+  -- they stand in the order in which the places were bound
+  pub order : AreAt vs (addresses_of binds) (places_bound bindings)
   -- the clause's variables have their places among the pieces, in order
   pub variables : length (place_words 4000000000 ps) ≡ vars_of (clause_used m g k)
   -- their numbers, and those of the children, fit into names
