@@ -26,7 +26,7 @@ use Rattle.fcp_model.specs.Pair.{Pair, Step, binds, parts, compare, part_step, T
 use Rattle.fcp_model.specs.Pair.{bind_solid, table, both_looks, first_of, pair_on, pair}
 use Rattle.fcp_model.specs.Pair as pairs
 use Rattle.fcp_model.proofs.MoreSteps.{at_least, occurs_more}
-use Rattle.unify_terms.specs.Denotes.{Naming, Denotes, DenotesPairs, Stands, Names, IsPlace, HasPlace, LookIs}
+use Rattle.unify_terms.specs.Denotes.{Naming, Denotes, DenotesPairs, Stands, Names, IsPlace, LookIs}
 use Rattle.unify_terms.proofs.OccursInWords.{FoundIs, hits, misses, map_end, or_miss, occurs_so}
 use Rattle.unify_terms.proofs.AlikeInWords.{is_plain, plain_is, SameAlike, neither, both, alike_so}
 use Rattle.unify_terms.proofs.MovesInWords.{does_nothing, does_wait, does_order, does_bind, Checked, was_found, was_absent, does_check}
@@ -37,9 +37,9 @@ module _ (p : Naming) (m : Memory) (names : Names p m) where
   -- a turn of the words as a step of the terms, under bindings of places
   pub data TurnIs (bs : WordList) (s : Bindings) : Turn → Step → Type 0 where
     idle : TurnIs bs s (goes bs []) pairs.nothing
-    bound : (bs' : WordList) (v : Variable) (t : Term Variable) → HasPlace p m v → find s v ≡ None
-        → Stands p m bs' (s ++ (v, t) ∷ [])
-        → TurnIs bs s (goes bs' []) (binds v t)
+    bound : (a x : ℕ) (v : Variable) (t : Term Variable) → IsPlace p m a v → find s v ≡ None
+        → Stands p m (bs ++ (a, x) ∷ []) (s ++ (v, t) ∷ [])
+        → TurnIs bs s (goes (bs ++ (a, x) ∷ []) []) (binds v t)
     split : (qs : List (ℕ × ℕ)) (ts : List Pair) → DenotesPairs p m ts qs → TurnIs bs s (goes bs qs) (parts ts)
     unlike : TurnIs bs s clashes pairs.clashes
     halts : TurnIs bs s waits pairs.waits
@@ -104,7 +104,7 @@ module _ (p : Naming) (m : Memory) (names : Names p m) where
           treats = λ n _. g n;
           read = ap (map p.name) e.1 ∙ f;
           is = subst (λ (z : Turn). TurnIs bs s z (binds v u)) (sym e.0)
-              (bound (bs ++ (a, x) ∷ []) v u (a, (h, n)) (subst (λ (z : Variable). find s z ≡ None) n (st.unbound a h i.0 i.1))
+              (bound a x v u (h, n) (subst (λ (z : Variable). find s z ≡ None) n (st.unbound a h i.0 i.1))
               (stands_bound p m names bs s a x v u st i h n d));
         }
 
@@ -268,7 +268,7 @@ module _ (p : Naming) (m : Memory) (names : Names p m) where
               (λ (z : Term Variable). treated (binds v z) (v ∷ k.0)) (plain_same p m names u x d));
           read = more_reads rs rs0 rs' v k.0 f k.2;
           is = subst (λ (z : Turn). TurnIs bs s z (binds v u)) (sym e)
-              (bound (bs ++ (a, x) ∷ []) v u (a, i) (subst (λ (z : Variable). find s z ≡ None) i.1 (st.unbound a i.0 here.0 here.1))
+              (bound a x v u i (subst (λ (z : Variable). find s z ≡ None) i.1 (st.unbound a i.0 here.0 here.1))
               (stands_bound p m names bs s a x v u st here i.0 i.1 d));
         }
 

@@ -1,6 +1,6 @@
 -- The unification of words is that of their terms.
 use Rattle.std.proofs.Common.{◌≡◌, ◌⊎◌, ℕ, suc, ◌+◌, ◌≤◌, Bool, true, false, cond, List, [], ◌∷◌, ◌++◌, map, Option, Some}
-use Rattle.std.proofs.Common.{None, refl, sym, ap, ap₂, ◌∙◌, subst, inl, inr, ⊎_elim, arith, append_assoc}
+use Rattle.std.proofs.Common.{None, refl, sym, ap, ap₂, ◌∙◌, subst, inl, inr, ⊎_elim, arith, append_assoc, append-nil}
 use Rattle.heap_words.specs.Trails.{WordList, Memory}
 use Rattle.ro_unify.specs.Unify.{Turn, goes, clashes, waits, Treats, Unifies, at_end, on, clashed, stopped}
 use Rattle.ro_unify.specs.Unify as words
@@ -13,7 +13,7 @@ use Rattle.fcp_model.specs.Unification as endings
 use Rattle.fcp_model.proofs.Finding.{found_or, find-append, is_same-true}
 use Rattle.fcp_model.proofs.MoreSteps.{at_least, value_more, unify_more}
 use Rattle.unify_terms.specs.Denotes.{Naming, Denotes, DenotesPairs, Stands, Names, HasValue, HasPlace, BindsNamed, EndsAs, finished}
-use Rattle.unify_terms.specs.Denotes.{UnifiesAs}
+use Rattle.unify_terms.specs.Denotes.{IsPlace, BindsInOrder, UnifiesAs}
 use Rattle.unify_terms.specs.Denotes as denoted
 use Rattle.unify_terms.proofs.ValuesOfWords.{values_so, value_is}
 use Rattle.unify_terms.proofs.PairsInWords.{TurnIs, idle, bound, split, unlike, halts, Treats_as, by_looks}
@@ -93,44 +93,64 @@ module _ (p : Naming) (m : Memory) (names : Names p m) where
   named_from s us ts from (endings.clash rs) h = tt
   named_from s us ts from (endings.wait rs) h = tt
 
+  -- what is bound after one place more is bound after those before it, with that place first
+  order_from : (bs : WordList) (ts : Bindings) (a x : ℕ) (v : Variable) (u : Term Variable) → IsPlace p m a v → (d : words.Ended)
+      (e : endings.Ended) → BindsInOrder p m (bs ++ (a, x) ∷ []) (ts ++ (v, u) ∷ []) d e → BindsInOrder p m bs ts d e
+  order_from bs ts a x v u i (words.done bs' rs) (endings.done ts' qs) h = (
+    (a, x) ∷ h.0,
+    (v, u) ∷ h.1,
+    h.2 ∙ append_assoc bs ((a, x) ∷ []) h.0,
+    h.3 ∙ append_assoc ts ((v, u) ∷ []) h.1,
+    (i, h.4),
+  )
+  order_from bs ts a x v u i (words.done bs' rs) (endings.clash qs) h = tt
+  order_from bs ts a x v u i (words.done bs' rs) (endings.wait qs) h = tt
+  order_from bs ts a x v u i (words.clash rs) e h = tt
+  order_from bs ts a x v u i (words.stop rs) e h = tt
+
   module _ (s ts : Bindings) (bs : WordList) (rs rs' : List ℕ) (a b : Term Variable) (tps : List Pair) (ps : List (ℕ × ℕ))
       (left : DenotesPairs p m tps ps) (st : Stands p m bs (s ++ ts)) where
     going : (bs' : WordList) (qs : List (ℕ × ℕ)) (e : words.Ended) (t : Turn)
         → (r : Treats_as p m names bs (s ++ ts) rs rs' t (λ n. pair n (s ++ ts) a b))
-        → ((us : Bindings) (ups : List Pair) → Stands p m bs' (s ++ us) → DenotesPairs p m ups (qs ++ ps) → UnifiesAs p m s us rs' ups e)
-        → t ≡ goes bs' qs → UnifiesAs p m s ts rs ((a, b) ∷ tps) e
+        → ((us : Bindings) (ups : List Pair) → Stands p m bs' (s ++ us) → DenotesPairs p m ups (qs ++ ps)
+        → UnifiesAs p m bs' s us rs' ups e)
+        → t ≡ goes bs' qs → UnifiesAs p m bs s ts rs ((a, b) ∷ tps) e
     going bs' qs e t r rec h = go t r.step r.is refl h
       where
         made : (us : Bindings) (ups : List Pair)
             → ((v : Variable) (t : Term Variable) → find us v ≡ Some t → (find ts v ≡ Some t) ⊎ (HasPlace p m v × (find s v ≡ None)))
-            → (k : UnifiesAs p m s us rs' ups e)
+            → ((d : endings.Ended) → BindsInOrder p m bs' us e d → BindsInOrder p m bs ts e d) → UnifiesAs p m bs' s us rs' ups e
             → ((n : ℕ) → step_on (unify n s) ts (map p.name rs ++ r.reads) tps r.step ≡ unify n s us (map p.name rs') ups)
-            → UnifiesAs p m s ts rs ((a, b) ∷ tps) e
-        made us ups from k same = record {
+            → UnifiesAs p m bs s ts rs ((a, b) ∷ tps) e
+        made us ups from order k same = record {
           steps = suc (r.steps + k.steps);
           end = k.end;
           by_steps = one_step s ts (map p.name rs) a b tps (r.steps + k.steps) r.step r.reads (r.treats (r.steps + k.steps) (omega arith))
               ∙ (same (r.steps + k.steps) ∙ enough s us k.steps (r.steps + k.steps) (map p.name rs') ups k.end (omega arith) k.by_steps);
           alike = k.alike;
           named = named_from s us ts from k.end k.named;
+          order = order k.end k.order;
         }
 
         go : (t2 : Turn) (st2 : Step) → TurnIs p m names bs (s ++ ts) t2 st2 → r.step ≡ st2 → t2 ≡ goes bs' qs
-            → UnifiesAs p m s ts rs ((a, b) ∷ tps) e
+            → UnifiesAs p m bs s ts rs ((a, b) ∷ tps) e
         go _ _ idle f i =
             let j : bs ≡ bs' = cc in
             let k : [] ≡ qs = cc in
-            made ts tps (λ v' t' g. inl g) (rec ts tps (subst (λ (z : WordList). Stands p m z (s ++ ts)) j st)
+            made ts tps (λ v' t' g. inl g) (λ d. subst (λ (z : WordList). BindsInOrder p m z ts e d → BindsInOrder p m bs ts e d) j (λ o. o))
+            (rec ts tps (subst (λ (z : WordList). Stands p m z (s ++ ts)) j st)
             (subst (λ (z : List (ℕ × ℕ)). DenotesPairs p m tps (z ++ ps)) k left))
             (λ n. ap (step_on (unify n s) ts (map p.name rs ++ r.reads) tps) f ∙ ap (λ (z : List Variable). unify n s ts z tps)
             (sym r.read))
-        go _ _ (bound bs2 v u a' n x) f i =
-            let j : bs2 ≡ bs' = cc in
+        go _ _ (bound c x v u i' n y) f i =
+            let j : bs ++ (c, x) ∷ [] ≡ bs' = cc in
             let k : [] ≡ qs = cc in
-            made (ts ++ (v, u) ∷ []) tps (one_more s ts v u a' n)
+            made (ts ++ (v, u) ∷ []) tps (one_more s ts v u (c, i') n)
+            (λ d. subst (λ (z : WordList). BindsInOrder p m z (ts ++ (v, u) ∷ []) e d → BindsInOrder p m bs ts e d) j
+            (order_from bs ts c x v u i' e d))
             (rec (ts ++ (v, u) ∷ []) tps
             (subst (λ (z : Bindings). Stands p m bs' z) (append_assoc s ts ((v, u) ∷ []))
-            (subst (λ (z : WordList). Stands p m z ((s ++ ts) ++ (v, u) ∷ [])) j x))
+            (subst (λ (z : WordList). Stands p m z ((s ++ ts) ++ (v, u) ∷ [])) j y))
             (subst (λ (z : List (ℕ × ℕ)). DenotesPairs p m tps (z ++ ps)) k left))
             (λ n. ap (step_on (unify n s) ts (map p.name rs ++ r.reads) tps) f ∙ ap
             (λ (z : List Variable). unify n s (ts ++ (v, u) ∷ []) z tps) (sym r.read))
@@ -138,6 +158,7 @@ module _ (p : Naming) (m : Memory) (names : Names p m) where
             let j : bs ≡ bs' = cc in
             let k : vs ≡ qs = cc in
             made ts (tqs ++ tps) (λ v' t' g. inl g)
+            (λ d. subst (λ (z : WordList). BindsInOrder p m z ts e d → BindsInOrder p m bs ts e d) j (λ o. o))
             (rec ts (tqs ++ tps) (subst (λ (z : WordList). Stands p m z (s ++ ts)) j st)
             (subst (λ (z : List (ℕ × ℕ)). DenotesPairs p m (tqs ++ tps) (z ++ ps)) k (pairs_with tqs tps vs ps d left)))
             (λ n. ap (step_on (unify n s) ts (map p.name rs ++ r.reads) tps) f ∙ ap (λ (z : List Variable). unify n s ts z (tqs ++ tps))
@@ -146,13 +167,13 @@ module _ (p : Naming) (m : Memory) (names : Names p m) where
         go _ _ halts f i = cc
 
     clashing : (t : Turn) → (r : Treats_as p m names bs (s ++ ts) rs rs' t (λ n. pair n (s ++ ts) a b)) → t ≡ clashes
-        → UnifiesAs p m s ts rs ((a, b) ∷ tps) (words.clash rs')
+        → UnifiesAs p m bs s ts rs ((a, b) ∷ tps) (words.clash rs')
     clashing t r h = go t r.step r.is refl h
       where
         go : (t2 : Turn) (st2 : Step) → TurnIs p m names bs (s ++ ts) t2 st2 → r.step ≡ st2 → t2 ≡ clashes
-            → UnifiesAs p m s ts rs ((a, b) ∷ tps) (words.clash rs')
+            → UnifiesAs p m bs s ts rs ((a, b) ∷ tps) (words.clash rs')
         go _ _ idle f i = cc
-        go _ _ (bound bs2 v u a' n x) f i = cc
+        go _ _ (bound c x v u i' n y) f i = cc
         go _ _ (split vs tqs d) f i = cc
         go _ _ halts f i = cc
         go _ _ unlike f i = record {
@@ -163,16 +184,17 @@ module _ (p : Naming) (m : Memory) (names : Names p m) where
               (sym r.read));
           alike = denoted.clashed rs';
           named = tt;
+          order = tt;
         }
 
     halting : (t : Turn) → (r : Treats_as p m names bs (s ++ ts) rs rs' t (λ n. pair n (s ++ ts) a b)) → t ≡ waits
-        → UnifiesAs p m s ts rs ((a, b) ∷ tps) (words.stop rs')
+        → UnifiesAs p m bs s ts rs ((a, b) ∷ tps) (words.stop rs')
     halting t r h = go t r.step r.is refl h
       where
         go : (t2 : Turn) (st2 : Step) → TurnIs p m names bs (s ++ ts) t2 st2 → r.step ≡ st2 → t2 ≡ waits
-            → UnifiesAs p m s ts rs ((a, b) ∷ tps) (words.stop rs')
+            → UnifiesAs p m bs s ts rs ((a, b) ∷ tps) (words.stop rs')
         go _ _ idle f i = cc
-        go _ _ (bound bs2 v u a' n x) f i = cc
+        go _ _ (bound c x v u i' n y) f i = cc
         go _ _ (split vs tqs d) f i = cc
         go _ _ unlike f i = cc
         go _ _ halts f i = record {
@@ -183,13 +205,21 @@ module _ (p : Naming) (m : Memory) (names : Names p m) where
               (sym r.read));
           alike = denoted.paused rs';
           named = tt;
+          order = tt;
         }
 
   -- the unification of words is that of their terms, by some number of steps
   pub unify_so : (s : Bindings) (bs : WordList) (rs : List ℕ) (ps : List (ℕ × ℕ)) (e : words.Ended) → Unifies m bs rs ps e
-      → (ts : Bindings) (tps : List Pair) → Stands p m bs (s ++ ts) → DenotesPairs p m tps ps → UnifiesAs p m s ts rs tps e
+      → (ts : Bindings) (tps : List Pair) → Stands p m bs (s ++ ts) → DenotesPairs p m tps ps → UnifiesAs p m bs s ts rs tps e
   unify_so s _ _ _ _ (at_end bs rs) ts [] st d =
-      record { steps = 1; end = endings.done ts (map p.name rs); by_steps = refl; alike = finished bs rs ts st; named = λ v t e. inl e }
+      record {
+        steps = 1;
+        end = endings.done ts (map p.name rs);
+        by_steps = refl;
+        alike = finished bs rs ts st;
+        named = λ v t e. inl e;
+        order = ([], [], sym (append-nil bs), sym (append-nil ts), tt);
+      }
   unify_so s _ _ _ _ (at_end bs rs) ts (t ∷ tps) st d = absurd d
   unify_so s _ _ _ _ (on bs rs w ps bs' qs rs' e t u) ts [] st d = absurd d
   unify_so s _ _ _ _ (on bs rs w ps bs' qs rs' e t u) ts (ab ∷ tps) st d =

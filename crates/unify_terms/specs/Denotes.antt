@@ -125,17 +125,30 @@ module _ (p : Naming) (m : Memory) where
   BindsNamed s ts (endings.clash rs) = Unit {0}
   BindsNamed s ts (endings.wait rs) = Unit {0}
 
+  -- these places, one by one, have the names that are bound here
+  abbrev pub AreNames : WordList → Bindings → Type 0
+  AreNames [] [] = Unit {0}
+  AreNames (x ∷ xs) (u ∷ us) = IsPlace x.0 u.0 × AreNames xs us
+  AreNames _ _ = ⊥
+
+  -- where a unification is done, it bound places and their names in the same order, after those that were bound before
+  abbrev pub BindsInOrder : WordList → Bindings → words.Ended → endings.Ended → Type 0
+  BindsInOrder bs ts (words.done bs' rs) (endings.done ts' qs) =
+      (xs : WordList) × (us : Bindings) × (bs' ≡ bs ++ xs) × (ts' ≡ ts ++ us) × AreNames xs us
+  BindsInOrder bs ts _ _ = Unit {0}
+
   -- the definitions unify the pairs so, by some number of steps
-  pub record UnifiesAs (s ts : Bindings) (rs : List ℕ) (ps : List Pair) (e : words.Ended) : Type 0 where
+  pub record UnifiesAs (bs : WordList) (s ts : Bindings) (rs : List ℕ) (ps : List Pair) (e : words.Ended) : Type 0 where
     pub steps : ℕ
     pub end : endings.Ended
     pub by_steps : unify steps s ts (map p.name rs) ps ≡ Some end
     pub alike : EndsAs s e end
     pub named : BindsNamed s ts end
+    pub order : BindsInOrder bs ts e end
 
 -- Wherever the pairs stand for pairs of terms, and the bindings with the memory for a map, the definitions unify the
 -- terms over that map, by some number of steps, as the words were.
 abbrev pub AreUnified : Memory → WordList → List ℕ → List (ℕ × ℕ) → words.Ended → Type 0
 AreUnified m bs rs ps e =
     (p : Naming) → Names p m → (s ts : Bindings) (tps : List Pair) → Stands p m bs
-    (s ++ ts) → DenotesPairs p m tps ps → UnifiesAs p m s ts rs tps e
+    (s ++ ts) → DenotesPairs p m tps ps → UnifiesAs p m bs s ts rs tps e
