@@ -187,6 +187,7 @@ module _ (w : Words) (vs : Addresses) (bound : Bindings) (r : AtHand) (t : Tryin
     decides = subst (λ (e : Decision). Decides m bound g e) (sym same) d.1;
     binds_all = binds_all;
     binds_only = binds_only;
+    order = s.order;
     variables = ap length (same_places r.binds 4000000000 r.pieces) ∙ count;
     few = few;
     variable = λ i a l. variable_says i a

@@ -9,22 +9,24 @@ use Rattle.fcp_model.proofs.Finding.{found_or, find-append, is_same-true, is_sam
 use Rattle.heap_words.specs.Cells.{is_final_word, is_final_in}
 use Rattle.heap_words.specs.Trails.{word_at}
 use Rattle.heap_words.specs.declared.cell.Cell.TheVariants.{Unbound}
-use Rattle.word_states.specs.Words.{Words, At, first_of, over, Grows}
+use Rattle.word_states.specs.Words.{Words, At, first_of, addresses_of, over, Grows}
 use Rattle.word_states.specs.Denoting.{Addresses, Listed, Denotes}
 use Rattle.word_states.specs.Standing.{PlaceSays}
 use Rattle.word_states.specs.Pieces.{rows, StartsAt, place_words, numbered, with_own, with_variables}
+use Rattle.word_states.specs.Trials.{AreAt}
 use Rattle.word_states.proofs.Lists.{nat_same, listed_either, listed_right}
 use Rattle.word_states.proofs.Persisting.{denotes_final, denotes_on, expr_on}
 use Rattle.word_states.proofs.Pieces.{in_rows, rows_in, starts_above, variable_at, place_once, located_starts, zero_is}
 use Rattle.machine_code.specs.Slots.{as_term}
 use Rattle.machine_code.specs.Instructions.{GetFirst}
 use Rattle.machine_code.specs.Machine.{Trying}
-use Rattle.trial_laws.specs.AtHand.{AtHand, term_word, ArePieces, GoalsSay, IsStore, StandsForTry}
+use Rattle.trial_laws.specs.AtHand.{AtHand, term_word, ArePieces, GoalsSay, IsStore, of_store, StandsForTry}
 use Rattle.trial_laws.specs.Laws.{IsFilled, LawOfFirst}
 use Rattle.trial_laws.proofs.Pieces.{either_word, store_word, word_of_piece, piece_word, place_on, goals_on, named_on, not_empty}
 use Rattle.trial_laws.proofs.Pieces.{starts_once}
 use Rattle.trial_laws.proofs.Slots.{step, term_says}
 use Rattle.trial_laws.proofs.TriedPlaces.{below}
+use Rattle.trial_laws.proofs.PlacesInOrder.{own_bound}
 
 zero_not_final : is_final_word 0 ≡ true → ⊥
 zero_not_final f = true≢false (sym f ∙ ap is_final_in zero_is)
@@ -241,6 +243,7 @@ module _ (w : Words) (vs : Addresses) (bound : Bindings) (r : AtHand) (t : Tryin
     );
     binds_open = open_on;
     bound_named = named_still;
+    order = subst (AreAt vs (addresses_of (of_store r.binds))) (sym (own_bound t.bound k u)) s.order;
     reads = named_on _ _ on r.reads t.read s.reads;
     waits = s.waits;
     children = subst (λ (qs : List ℕ). GoalsSay (with_own ps w) (with_variables ps vs) qs t.children) (sym f.same_processes)

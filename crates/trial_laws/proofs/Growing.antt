@@ -52,6 +52,7 @@ module _ (w : Words) (vs : Addresses) (bound : Bindings) (r : AtHand) (t : Tryin
     binds_named = λ a x e. let k = s.binds_named a x e in (k.0, k.1, listed_on k.0 a k.2, k.3);
     binds_open = λ a x e. let k = s.binds_open a x e in (k.0, (k.1.0, more_words w r.pieces (p ∷ []) store.low a k.1.0 k.1.1, k.1.2));
     bound_named = λ v u e. let k = s.bound_named v u e in (k.0, (k.1.0, listed_on v k.1.0 k.1.1));
+    order = s.order;
     reads = named_on _ _ listed_on r.reads t.read s.reads;
     waits = s.waits;
     children = say;

@@ -2,6 +2,7 @@ pub mod Pieces
 pub mod Growing
 pub mod Slots
 pub mod TriedPlaces
+pub mod PlacesInOrder
 pub mod PutLaws
 pub mod PieceLaws
 pub mod SpawnLaws

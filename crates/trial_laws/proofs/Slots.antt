@@ -59,6 +59,7 @@ put_stands w vs bound r t i x u s h = record {
   binds_named = s.binds_named;
   binds_open = s.binds_open;
   bound_named = s.bound_named;
+  order = s.order;
   reads = s.reads;
   waits = s.waits;
   children = s.children;

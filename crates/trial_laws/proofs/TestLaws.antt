@@ -70,6 +70,7 @@ reads_more w vs bound r t s rs qs called = record {
   binds_named = s.binds_named;
   binds_open = s.binds_open;
   bound_named = s.bound_named;
+  order = s.order;
   reads = called_more (with_variables r.pieces vs) r.reads rs t.read qs s.reads called;
   waits = s.waits;
   children = s.children;

@@ -96,6 +96,7 @@ module _ (w : Words) (vs : Addresses) (bound : Bindings) (n : ℕ) (store : IsSt
     binds_named = λ a x f. absurd (let h : None ≡ Some x = f in cc);
     binds_open = λ a x f. absurd (let h : None ≡ Some x = f in cc);
     bound_named = λ v u f. absurd (let h : None ≡ Some u = f in cc);
+    order = tt;
     reads = tt;
     waits = s.waits;
     children = subst (λ (qs : List ℕ). GoalsSay (with_own (places_for n) w) (with_variables (places_for n) vs) qs [])
@@ -124,6 +125,7 @@ started w vs bound store = record {
   binds_named = λ a x f. absurd (let h : None ≡ Some x = f in cc);
   binds_open = λ a x f. absurd (let h : None ≡ Some x = f in cc);
   bound_named = λ v u f. absurd (let h : None ≡ Some u = f in cc);
+  order = tt;
   reads = tt;
   waits = record { all = λ j e. absurd e; only = λ a i. absurd i };
   children = tt;
@@ -147,6 +149,7 @@ leaves w vs bound ops args at r t store formed s behind rs qs waits words named 
       binds_named = b.binds_named;
       binds_open = b.binds_open;
       bound_named = b.bound_named;
+      order = b.order;
       reads = tt;
       waits = read_among w vs bound r.pieces store r.waits waits rs t.earlier qs s.waits named noted;
       children = tt;
@@ -164,6 +167,7 @@ clears w vs bound ops args at r t store formed s words given = record {
   binds_named = s.binds_named;
   binds_open = s.binds_open;
   bound_named = s.bound_named;
+  order = s.order;
   reads = s.reads;
   waits = s.waits;
   children = s.children;

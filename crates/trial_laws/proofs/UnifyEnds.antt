@@ -83,7 +83,7 @@ module _ (w : Words) (vs : Addresses) (bound : Bindings) (r : AtHand) (t : Tryin
       )
 
   -- the definitions unify the terms so
-  pub so : UnifiesAs (naming (with_variables r.pieces vs)) (memory_of (with_own r.pieces w)) bound t.bound r.reads
+  pub so : UnifiesAs (naming (with_variables r.pieces vs)) (memory_of (with_own r.pieces w)) r.binds bound t.bound r.reads
       ((as_term (t.slots i), as_term (t.slots j)) ∷ []) e
   so =
       unify_so P M (sees w vs bound r t store formed s).names bound r.binds r.reads ((term_word r i, term_word r j) ∷ []) e unifies t.bound

@@ -17,7 +17,7 @@ use Rattle.word_states.specs.Words.{Words, first_of, over}
 use Rattle.word_states.specs.Denoting.{Addresses, Listed}
 use Rattle.word_states.specs.Standing.{PlaceSays}
 use Rattle.word_states.specs.Pieces.{with_own, with_variables}
-use Rattle.unify_terms.specs.Denotes.{Naming, BindsNamed, EndsAs, finished, clashed, paused, UnifiesAs, Stands}
+use Rattle.unify_terms.specs.Denotes.{Naming, BindsNamed, BindsInOrder, EndsAs, finished, clashed, paused, UnifiesAs, Stands}
 use Rattle.unify_terms.specs.WordsOfTries.{memory_of, naming, SayBound}
 use Rattle.unify_terms.proofs.NamesOfPlaces.{place_listed}
 use Rattle.unify_terms.proofs.NamedInWords.{HasTerm, IsNamed}
@@ -29,6 +29,7 @@ use Rattle.trial_laws.specs.Laws.{AreArguments, AreNoted, left, after_leave}
 use Rattle.trial_laws.specs.Unifying.{UnifiesSlots, LawOfUnify, LawOfClash, LawOfPause}
 use Rattle.trial_laws.proofs.Slots.{step_given}
 use Rattle.trial_laws.proofs.TryLaws.{leaves}
+use Rattle.trial_laws.proofs.PlacesInOrder.{still_in_order}
 use Rattle.trial_laws.proofs.Seen.{say, bound_here}
 use Rattle.heap_words.specs.declared.cell.Cell.TheVariants.{Unbound}
 use Rattle.word_states.specs.Words.{At}
@@ -40,6 +41,8 @@ module _ (w : Words) (vs : Addresses) (bound : Bindings) (r : AtHand) (t : Tryin
     (s : StandsForTry w vs bound r t) (i j : ℕ) (bs : WordList) (rs : List ℕ) (unifies : UnifiesSlots r w i j (done bs rs)) (us : Bindings)
     (st : Stands (naming (with_variables r.pieces vs)) (memory_of (with_own r.pieces w)) bs (bound ++ us))
     (new : BindsNamed (naming (with_variables r.pieces vs)) (memory_of (with_own r.pieces w)) bound t.bound
+    (endings.done us (map (naming (with_variables r.pieces vs)).name rs)))
+    (in_order : BindsInOrder (naming (with_variables r.pieces vs)) (memory_of (with_own r.pieces w)) r.binds t.bound (done bs rs)
     (endings.done us (map (naming (with_variables r.pieces vs)).name rs))) where
   abbrev U : Words
   U = with_own r.pieces w
@@ -115,6 +118,7 @@ module _ (w : Words) (vs : Addresses) (bound : Bindings) (r : AtHand) (t : Tryin
     binds_named = binds_new;
     binds_open = λ a x f. (was_open a x f).1;
     bound_named = bound_new;
+    order = still_in_order w vs bound r.pieces store M r.binds bs t.bound us rs (map P.name rs) in_order s.order;
     reads = calls w vs bound r t store formed s i j (done bs rs) unifies rs ends.1;
     waits = s.waits;
     children = s.children;
@@ -125,7 +129,7 @@ module _ (w : Words) (vs : Addresses) (bound : Bindings) (ops : List Op) (args :
     (store : IsStore w vs bound) (formed : ArePieces r.pieces) (s : StandsForTry w vs bound r t) (i j : ℕ)
     (is : slice_get ops at ≡ Some (Unify i j)) (e : Ended) (unifies : UnifiesSlots r w i j e) where
   abbrev Known : Type 0
-  Known = UnifiesAs (naming (with_variables r.pieces vs)) (memory_of (with_own r.pieces w)) bound t.bound r.reads
+  Known = UnifiesAs (naming (with_variables r.pieces vs)) (memory_of (with_own r.pieces w)) r.binds bound t.bound r.reads
       ((as_term (t.slots i), as_term (t.slots j)) ∷ []) e
 
   abbrev known : Known
@@ -162,28 +166,33 @@ module _ (w : Words) (vs : Addresses) (bound : Bindings) (ops : List Op) (args :
 
 pub unify_leads : LawOfUnify
 unify_leads w vs bound ops args at r t store formed s i j bs rs e unifies =
-    let k = so w vs bound r t store formed s i j (done bs rs) unifies in go (done bs rs) k.end k.alike refl refl k.named
+    let k = so w vs bound r t store formed s i j (done bs rs) unifies in go (done bs rs) k.end k.alike refl refl k.named k.order
   where
     go : (d : Ended) (end : endings.Ended) → EndsAs (naming (with_variables r.pieces vs)) (memory_of (with_own r.pieces w)) bound d end
         → d ≡ done bs rs → end ≡ (so w vs bound r t store formed s i j (done bs rs) unifies).end
         → BindsNamed (naming (with_variables r.pieces vs)) (memory_of (with_own r.pieces w)) bound t.bound end
+        → BindsInOrder (naming (with_variables r.pieces vs)) (memory_of (with_own r.pieces w)) r.binds t.bound d end
         → Leads w vs bound ops args at t (suc at) (record r { binds = bs; reads = rs })
-    go _ _ (finished bs' rs' us st) f g n =
+    go _ _ (finished bs' rs' us st) f g n o =
         let i' : bs' ≡ bs = cc in
         let j' : rs' ≡ rs = cc in
         let st' : Stands (naming (with_variables r.pieces vs)) (memory_of (with_own r.pieces w)) bs (bound ++ us) =
         subst (λ (z : WordList). Stands (naming (with_variables r.pieces vs)) (memory_of (with_own r.pieces w)) z (bound ++ us)) i' st in
         let n' : BindsNamed (naming (with_variables r.pieces vs)) (memory_of (with_own r.pieces w)) bound t.bound
         (endings.done us (map (naming (with_variables r.pieces vs)).name rs)) = n in
+        let o' : BindsInOrder (naming (with_variables r.pieces vs)) (memory_of (with_own r.pieces w)) r.binds t.bound (done bs rs)
+        (endings.done us (map (naming (with_variables r.pieces vs)).name rs)) =
+        subst (λ (z : WordList). BindsInOrder (naming (with_variables r.pieces vs)) (memory_of (with_own r.pieces w)) r.binds t.bound
+        (done z rs) (endings.done us (map (naming (with_variables r.pieces vs)).name rs))) i' o in
         record {
           state = record t { bound = us; read = map (naming (with_variables r.pieces vs)).name rs };
-          stands = unified_stands w vs bound r t store formed s i j bs rs unifies us st' n';
+          stands = unified_stands w vs bound r t store formed s i j bs rs unifies us st' n' o';
           gives = gives_after w vs bound ops args at r t store formed s i j e (done bs rs) unifies (suc at) _
               (endings.done us (map (naming (with_variables r.pieces vs)).name rs))
               (ap (λ (z : List ℕ). endings.done us (map (naming (with_variables r.pieces vs)).name z)) (sym j') ∙ g) (λ m. refl);
         }
-    go _ _ (clashed rs') f g n = cc
-    go _ _ (paused rs') f g n = cc
+    go _ _ (clashed rs') f g n o = cc
+    go _ _ (paused rs') f g n o = cc
 
 pub clash_leads : LawOfClash
 clash_leads w vs bound ops args at r t store formed s i j rs waits words e unifies noted given =

@@ -1,5 +1,6 @@
 -- What a try has at hand, and the state of the code's meaning for which it stands.
 use Rattle.std.specs.Prelude.{◌≡◌, ◌⊎◌, ℕ, ◌+◌, ◌<◌, ◌≤◌, Bool, true, false, List, [], ◌∷◌, ◌++◌, length, Some, None, if◌then◌else◌}
+use Rattle.std.specs.Prelude.{nat_lt}
 use Rattle.fcp_model.specs.declared.run.Place.{Place}
 use Rattle.fcp_model.specs.Places.{Variable, made}
 use Rattle.fcp_model.specs.Terms.{Term, Bindings, find}
@@ -8,10 +9,11 @@ use Rattle.fcp_model.specs.Programs.{Goal}
 use Rattle.fcp_model.specs.Reads.{BindsPlaces}
 use Rattle.heap_words.specs.Trails.{WordList, word_at}
 use Rattle.heap_words.specs.declared.cell.Cell.TheVariants.{Unbound}
-use Rattle.word_states.specs.Words.{Words, At, over, IsIn}
+use Rattle.word_states.specs.Words.{Words, At, addresses_of, over, IsIn}
 use Rattle.word_states.specs.Denoting.{Addresses, Listed, ExprSays, GoalSays}
 use Rattle.word_states.specs.Standing.{PlacesStand, PlaceSays}
 use Rattle.word_states.specs.Pieces.{StartsAt, process_words, IsPiece, with_own, with_variables}
+use Rattle.word_states.specs.Trials.{places_bound, AreAt}
 use Rattle.machine_code.specs.Slots.{Slots, arguments}
 use Rattle.machine_code.specs.Instructions.{Op}
 use Rattle.machine_code.specs.Machine.{Trying, Meaning, follow}
@@ -77,6 +79,11 @@ pub record IsStore (w : Words) (vs : Addresses) (bound : Bindings) : Type 0 wher
   pub says : PlacesStand w vs bound
   pub own_free : BindsPlaces bound
 
+-- the bindings of the store's places
+abbrev pub of_store : WordList → WordList
+of_store [] = []
+of_store (b ∷ bs) = if nat_lt b.0 4000000000 then b ∷ of_store bs else of_store bs
+
 -- Over these words of the store, what is at hand stands for the try t.
 pub record StandsForTry (w : Words) (vs : Addresses) (bound : Bindings) (r : AtHand) (t : Trying) : Type 0 where
   pub clause : r.clause ≡ t.clause
@@ -95,6 +102,8 @@ pub record StandsForTry (w : Words) (vs : Addresses) (bound : Bindings) (r : AtH
   pub binds_open : (a x : ℕ) → word_at r.binds a ≡ Some x → (e : ℕ) × At (with_own r.pieces w) a (Unbound e)
   pub bound_named : (v : Variable) (u : Term Variable) → find t.bound v ≡ Some u
       → (find bound v ≡ None) × ((a : ℕ) × Listed (with_variables r.pieces vs) v a)
+  -- it bound the store's places in the order in which its state did
+  pub order : AreAt vs (addresses_of (of_store r.binds)) (places_bound t.bound)
   -- what it read, in order, and the places that the tries before it read
   pub reads : AreCalled (with_variables r.pieces vs) r.reads t.read
   pub waits : ArePlacesAmong vs r.waits t.earlier

@@ -1,5 +1,5 @@
 -- The ends of a trial: what is at hand then says what is decided.
-use Rattle.std.specs.Prelude.{◌≡◌, ℕ, suc, ◌+◌, ◌<◌, true, false, List, [], ◌∷◌, length, if◌then◌else◌, nat_eq, nat_lt, unwrap_or}
+use Rattle.std.specs.Prelude.{◌≡◌, ℕ, suc, ◌+◌, ◌<◌, true, false, List, [], ◌∷◌, length, if◌then◌else◌, nat_eq, unwrap_or}
 use Rattle.std.specs.Prelude.{slice_get, Some, None}
 use Rattle.fcp_model.specs.Places.{Variable}
 use Rattle.fcp_model.specs.Programs.{Goal, Program}
@@ -15,6 +15,7 @@ use Rattle.machine_code.specs.Instructions.{Op, Commit}
 use Rattle.machine_code.specs.Machine.{Trying, Meaning}
 use Rattle.machine_code.specs.Correct.{decision_of}
 use Rattle.trial_laws.specs.AtHand.{Gives}
+pub use Rattle.trial_laws.specs.AtHand.{of_store}
 use Rattle.trial_laws.specs.Laws.{Always}
 
 -- an own place takes what it is bound to
@@ -28,11 +29,6 @@ settled_piece bs s (x ∷ y ∷ z ∷ zs) = x ∷ y ∷ z ∷ zs
 abbrev pub settled : WordList → ℕ → List (List ℕ) → List (List ℕ)
 settled bs b [] = []
 settled bs b (p ∷ ps) = settled_piece bs b p ∷ settled bs (b + length p) ps
-
--- the bindings of the store's places
-abbrev pub of_store : WordList → WordList
-of_store [] = []
-of_store (b ∷ bs) = if nat_lt b.0 4000000000 then b ∷ of_store bs else of_store bs
 
 -- what the code gives from here on is what the clauses decide
 abbrev pub IsOfSource : Program → Bindings → Goal Variable → List Op → List (Term Variable) → ℕ → Trying → Type 0
