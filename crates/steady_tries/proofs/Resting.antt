@@ -46,6 +46,7 @@ stands_rested w vs bound r t args words store named s = record {
   binds_named = s.binds_named;
   binds_open = s.binds_open;
   bound_named = s.bound_named;
+  order = s.order;
   reads = s.reads;
   waits = s.waits;
   children = s.children;
