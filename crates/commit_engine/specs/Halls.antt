@@ -1,10 +1,8 @@
 -- What a turn needs of a hall.
 use Rattle.std.specs.Prelude.{◌≡◌, ◌⊎◌, ℕ, ◌+◌, ◌-◌, ◌*◌, ◌/◌, ◌<◌, ◌≤◌, Bool, true, false, List, Option, Some, length}
-use Rattle.heap_words.specs.Cells.{decoded, is_final_word}
+use Rattle.heap_words.specs.Cells.{is_final_word}
 use Rattle.heap_words.specs.Heaps.{IsHeap, inside_at}
 use Rattle.heap_words.specs.Trails.{WordList}
-use Rattle.heap_words.specs.declared.cell.Cell.TheVariants.{Status}
-use Rattle.heap_words.specs.declared.cell.Stand.{Stand}
 use Rattle.fcp_model.specs.declared.run.Entry.{Entry}
 use Rattle.fcp_model.specs.declared.run.Entry.TheVariants.{Commit, Hang, Fail}
 use Rattle.word_states.specs.Words.{Among}
@@ -65,7 +63,7 @@ pub record MayStamp (pages : ℕ) (holds : ℕ → Bool) (stands primed : ℕ �
 -- exactly this one with this number does.
 pub record HallLaws {S : Type 0} (addresses : S → ℕ) (sound : S → Type 0) (knows : S → ℕ → Type 0) (had : S → ℕ → ℕ → Type 0)
     (shown : S → ℕ → Option ℕ) (later : S → S → Type 0) (gave once : S → S → ℕ → ℕ → Type 0) (page_count : S → ℕ) (holds : S → ℕ → Bool)
-    (due : S → Bool) (purse : S → Quota) (spare : S → ℕ) (takes : S → List (ℕ × Bool)) (alone : S → Type 0) (process : S → ℕ → Type 0)
+    (due : S → Bool) (purse : S → Quota) (spare : S → ℕ) (takes : S → List (ℕ × Bool)) (alone : S → Type 0)
     (stands primed : S → ℕ → ℕ → Type 0) (silent : S → S → Type 0) (found : S → S → ℕ → ℕ → Type 0)
     (added : S → S → WordMove → ℕ → Type 0) : Type 0 where
   -- stretches without an entry
@@ -95,10 +93,6 @@ pub record HallLaws {S : Type 0} (addresses : S → ℕ) (sound : S → Type 0) 
   pub silent_knows : (v w : S) (a : ℕ) → silent v w → knows v a → knows w a
   pub silent_had : (v w : S) (a x : ℕ) → silent v w → had v a x → is_final_word x ≡ true → had w a x
   pub silent_shown : (v w : S) (a x : ℕ) → silent v w → shown v a ≡ Some x → shown w a ≡ Some x
-  -- a process, its four first words, and its status
-  pub process_knows : (v : S) (p b : ℕ) → sound v → process v p → p ≤ b → b ≤ p + 3 → knows v b
-  pub process_says : (v w : S) (p x : ℕ) → sound v → process v p → gave v w p x → (d : Stand) × (decoded x ≡ Some (Status d))
-  pub silent_process : (v w : S) (p : ℕ) → silent v w → process v p → process w p
   -- alone
   pub silent_alone : (v w : S) → silent v w → alone w → alone v
   pub alone_silent : (v w : S) → silent v w → alone v → alone w

@@ -1,9 +1,6 @@
 -- A plain hall: what its fields say.
 use Rattle.std.specs.Prelude.{◌≡◌, ℕ, suc, ◌+◌, ◌*◌, ◌<◌, ◌≤◌, Bool, false, [], ◌∷◌, ◌++◌, length, slice_get, unwrap_or, Some}
-use Rattle.heap_words.specs.Cells.{decoded}
 use Rattle.heap_words.specs.Heaps.{IsHeap, is_inside, inside_at}
-use Rattle.heap_words.specs.declared.cell.Cell.TheVariants.{Status}
-use Rattle.heap_words.specs.declared.cell.Stand.{Stand}
 use Rattle.word_states.specs.Words.{HasAll}
 use Rattle.word_states.specs.Writing.{applied, MayWrite}
 use Rattle.word_moves.specs.declared.word_move.WordMove.{WordMove}
@@ -30,10 +27,6 @@ pub record IsSame (g h : PlainHall) : Type 0 where
 -- the page is held
 abbrev pub holds_of : PlainHall → ℕ → Bool
 holds_of h p = unwrap_or (slice_get h.held.items p) false
-
--- a status stands at the address
-abbrev pub IsProcess : PlainHall → ℕ → Type 0
-IsProcess h p = (x : ℕ) × (d : Stand) × (inside_at h.words.items p ≡ Some x) × (decoded x ≡ Some (Status d))
 
 -- the words and the log are the same
 abbrev pub IsSilent : PlainHall → PlainHall → Type 0

@@ -38,9 +38,6 @@ pub trait Hall: Words {
     // There is no other worker.
     ghost alone: { Self → Type 0 };
 
-    // A process is known to stand at the address.
-    ghost process: { Self → ℕ → Type 0 };
-
     // The word stands at the address, and its page is held.
     ghost stands: { Self → ℕ → ℕ → Type 0 };
 
@@ -129,5 +126,5 @@ pub trait Hall: Words {
         ensures { result ≡ page_count self.now };
 
     ghost hall_laws: { HallLaws Self.addresses Self.sound Self.knows Self.had Self.shown Self.later Self.gave Self.once page_count holds due
-        purse spare takes alone process stands primed silent found added };
+        purse spare takes alone stands primed silent found added };
 }

@@ -5,7 +5,7 @@ ghost use Rattle.word_states.specs.Writing.{applied};
 ghost use Rattle.heap_words.specs.Heaps.{IsHeap, RefersInside, is_inside, inside_at, final_at};
 ghost use Rattle.page_layout.specs.Writing.{written};
 ghost use Rattle.commit_engine.specs.Halls.{commits_of, moves_of};
-ghost use Rattle.commit_engine.specs.PlainHalls.{IsPlain, IsSame, holds_of, IsProcess, IsSilent, IsFound, IsAdded};
+ghost use Rattle.commit_engine.specs.PlainHalls.{IsPlain, IsSame, holds_of, IsSilent, IsFound, IsAdded};
 ghost use Rattle.commit_engine.specs.PlainLaws.{plain_words, plain_hall};
 
 use crate::hall::Hall;
@@ -106,8 +106,6 @@ impl Hall for PlainHall {
     ghost primed = { λ h a x. Unit {0} };
 
     ghost alone = { λ h. Unit {0} };
-
-    ghost process = { IsProcess };
 
     ghost stands = { λ h a x. inside_at h.words.items a ≡ Some x };
 
