@@ -4,7 +4,9 @@
 mod answer;
 mod hall;
 mod plain_hall;
+mod turns;
 
 pub use answer::{Spent, Turn};
 pub use hall::Hall;
 pub use plain_hall::PlainHall;
+pub use turns::turn;
