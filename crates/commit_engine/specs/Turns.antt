@@ -16,7 +16,7 @@ use Rattle.word_commit.specs.declared.quota.Quota.{Quota}
 use Rattle.word_moves.specs.declared.word_move.WordMove.{WordMove}
 use Rattle.word_moves.specs.Planned.{IsSafeMove, IsCarried}
 use Rattle.move_plans.specs.declared.planner.Planner.{Planner}
-use Rattle.move_plans.specs.Plans.{IsPlan}
+use Rattle.move_plans.specs.Plans.{NamesMover, IsPlan}
 use Rattle.commit_engine.specs.declared.answer.Turn.{Turn}
 use Rattle.commit_engine.specs.declared.answer.Turn.TheVariants as answer
 use Rattle.commit_engine.specs.declared.answer.Spent.TheVariants as spent
@@ -74,6 +74,7 @@ module _ {S : Type 0} (found : S → S → ℕ → ℕ → Type 0) (takes : S �
     pub is_added : added old new e n
     pub address : e.address ≡ p
     pub carried : IsCarried e v
+    pub named : NamesMover e.reads.items p e.entry
     pub safe : IsSafeMove v
     pub fits : (m : Program) → IsCodeOf t m → Fits m v
     pub tells : TellsMove pl v

@@ -1,13 +1,15 @@
 -- What a planner answers for a process, by the words that it read.
-use Rattle.std.specs.Prelude.{◌≡◌, ◌⊎◌, ℕ, Some}
+use Rattle.std.specs.Prelude.{◌≡◌, ℕ, ◌+◌, ◌<◌, pos, Some}
+use Rattle.fcp_model.specs.declared.run.Entry.{Entry}
 use Rattle.fcp_model.specs.declared.run.Entry.TheVariants.{Commit, Hang, Fail}
 use Rattle.fcp_model.specs.declared.run.Proc.{Proc}
 use Rattle.fcp_model.specs.Programs.{Program}
 use Rattle.heap_words.specs.Cells.{decoded}
-use Rattle.heap_words.specs.Trails.{word_at}
-use Rattle.heap_words.specs.declared.cell.Cell.TheVariants.{Status}
+use Rattle.heap_words.specs.Trails.{WordList, word_at}
+use Rattle.heap_words.specs.declared.cell.Cell.TheVariants.{Small, Status}
 use Rattle.heap_words.specs.declared.cell.Stand.TheVariants.{Ready}
 use Rattle.word_states.specs.Words.{At}
+use Rattle.word_states.specs.Standing.{name_code}
 use Rattle.word_states.specs.Going.{Move, Fits}
 use Rattle.page_layout.specs.Writing.{written}
 use Rattle.machine_code.specs.Compiling.{Tables}
@@ -31,9 +33,24 @@ move_of pl p = record {
   waits = pl.waits.items;
 }
 
+-- the entry is a move of this process
+abbrev pub IsMoveOf : Entry → Proc → Type 0
+IsMoveOf (Commit q k) r = q ≡ r
+IsMoveOf (Hang q) r = q ≡ r
+IsMoveOf (Fail q) r = q ≡ r
+IsMoveOf _ r = ⊥
+
+-- The entry is a move of the process at p: its name was read there.
+pub record NamesMover (read : WordList) (p : ℕ) (e : Entry) : Type 0 where
+  pub mover : Proc
+  pub is_move : IsMoveOf e mover
+  pub small : mover.number < 268435456
+  pub name : At (word_at read) (p + 1) (Small (pos (name_code mover.entry mover.number)))
+
 -- The move is that of a Ready process: it is sound, and fits each program of which the code is.
 pub record IsPlan (t : Tables) (pl : Planner) (p : ℕ) : Type 0 where
   pub is_ready : At (word_at pl.machine.trail.kept) p (Status Ready)
+  pub named : NamesMover pl.machine.trail.kept p pl.entry
   pub safe : IsSafeMove (move_of pl p)
   pub fits : (m : Program) → IsCodeOf t m → Fits m (move_of pl p)
 
