@@ -6,6 +6,7 @@ use Rattle.fcp_model.specs.declared.source.Module.{Module}
 use Rattle.fcp_model.specs.declared.goal.TheConstants.{TRUE_PROCEDURE}
 use Rattle.fcp_model.specs.ProcedureNames.{procedure_names}
 use Rattle.fcp_model.specs.Goals.{AreNumbersOf}
+use Rattle.fcp_model.specs.Places.{place}
 use Rattle.fcp_model.specs.Programs.{Goal}
 use Rattle.fcp_model.specs.Cells.{goal_cells}
 use Rattle.fcp_model.specs.Translation.{started_goals, start_of}
@@ -13,7 +14,7 @@ use Rattle.fcp_model.specs.ClosedPrograms.{GoalsOver, IsNumbered}
 use Rattle.heap_words.specs.Heaps.{IsHeap, AreFresh, inside_at, top_at}
 use Rattle.heap_words.specs.declared.cell.Cell.TheVariants.{Small}
 use Rattle.word_states.specs.Words.{At}
-use Rattle.word_states.specs.Standing.{Book, StandsFor}
+use Rattle.word_states.specs.Standing.{Book, StandsFor, PlaceAt}
 use Rattle.goal_layout.specs.declared.layout.Laid.{Laid}
 use Rattle.goal_layout.specs.declared.layout.Laid.TheVariants.{Done, NoRoom}
 use Rattle.goal_layout.specs.FirstFit.{first_fit}
@@ -72,6 +73,8 @@ pub record LaysGoal (m : Module) (g : GoalText) (p : ℕ) (ws ws' : List ℕ) : 
   pub heap : IsHeap ws'
   pub book : Book
   pub stands : StandsFor book (inside_at ws') (start_of m g)
+  -- the place of variable k has its word at 2k
+  pub places : (k : ℕ) → 1 ≤ k → k ≤ length g.names → PlaceAt book (place 0 k) (2 * k)
   -- the first process is at p
   pub first : slice_get book.processes 0 ≡ Some p
   -- no top is lower than it was

@@ -1,0 +1,6 @@
+//! The run of one worker over a plain hall.
+#![tactic(auto)]
+
+mod run;
+
+pub use run::{Report, run_goal};
