@@ -21,7 +21,7 @@ use Rattle.word_state_laws.proofs.HangLaying.{hang_effect}
 
 module _ {book : Book} {ws : List ℕ} {s : State} {p : ℕ} {x : Process} (may : MayMove book ws s p x) where
   -- the process is tried
-  tried : (read : WordList) → HasAll read (inside_at ws) → IsTried read p (inside_at ws) book.places s.bound x.goal
+  pub tried : (read : WordList) → HasAll read (inside_at ws) → IsTried read p (inside_at ws) book.places s.bound x.goal
   tried read has = record {
     has = λ a y e. has a y (word_among read a y e);
     low = heap_low ws may.heap;
