@@ -3,3 +3,5 @@ pub mod Processes
 pub mod Finding
 pub mod Woken
 pub mod CommitFits
+pub mod HangFits
+pub mod SafeMoves
