@@ -1,0 +1,7 @@
+pub mod Rising
+pub mod Processes
+pub mod Finding
+pub mod Woken
+pub mod CommitFits
+pub mod HangFits
+pub mod SafeMoves
