@@ -1,10 +1,10 @@
 -- The trial of a process that assigns.
 use Rattle.std.proofs.Common.{◌≡◌, ◌⊎◌, ℕ, zero, suc, ◌+◌, ◌<◌, ◌≤◌, ℤ, true, false, List, [], ◌∷◌, ◌++◌, refl, sym, ap, ◌∙◌, subst}
 use Rattle.std.proofs.Common.{⊎_elim, inl, inr, arith, Option, Some, None}
-use Rattle.std.specs.Prelude.{unwrap_or}
+use Rattle.std.specs.Prelude.{unwrap_or, slice_get}
 use Rattle.std.proofs.lemmas.Option.{same_Some}
 use Rattle.fcp_model.specs.Places.{Variable}
-use Rattle.fcp_model.specs.Terms.{Term, Bindings}
+use Rattle.fcp_model.specs.Terms.{Term, number, Bindings}
 use Rattle.fcp_model.specs.Expressions.{Expr}
 use Rattle.fcp_model.specs.Programs.{Goal, user, true', unifies, assigns, Program}
 use Rattle.fcp_model.specs.declared.goal.TheConstants.{TRUE_PROCEDURE, UNIFY_PROCEDURE, ASSIGN_PROCEDURE}
@@ -22,6 +22,7 @@ use Rattle.guard_tests.specs.declared.number.Evaluated.{Evaluated}
 use Rattle.guard_tests.specs.declared.number.Evaluated.TheVariants as came
 use Rattle.guard_tests.specs.Opened.{WasSeenOpen, ReadsOpen}
 use Rattle.machine_code.specs.Fresh.{no_tops, IsFresh}
+use Rattle.machine_code.specs.Instructions.{Try, PutWord}
 use Rattle.machine_code.specs.Machine.{untried}
 use Rattle.trial_laws.specs.BuiltIns.{assign_code}
 use Rattle.trial_laws.specs.Endings.{IsOfSource}
@@ -36,16 +37,18 @@ use Rattle.stored_expressions.specs.Storing.{IsEvaluated}
 use Rattle.stored_expressions.proofs.Stores.{stored_so}
 use Rattle.steady_tries.specs.Steady.{arguments_of}
 use Rattle.steady_tries.specs.Ends.{IsOfProgram}
-use Rattle.steady_tries.proofs.Going.{the_store}
+use Rattle.steady_tries.proofs.Going.{the_store, tried_less}
 use Rattle.steady_tries.proofs.Testing.{each_one}
 use Rattle.trial_machine.specs.declared.machine.Machine.{Machine}
 use Rattle.trial_machine.specs.declared.decide.Decided.{Decided}
 use Rattle.trial_machine.specs.declared.decide.Decided.TheVariants.{Waits, Fails}
 use Rattle.trial_machine.specs.Assigning.{ExpressionSays, WereOpen}
 use Rattle.trial_machine.specs.Deciding.{Concludes, DecidesAll}
-use Rattle.trial_machine.specs.Goals.{Calls, NoGoal, AreKept, HoldsArguments, HasArguments}
-use Rattle.trial_machine.specs.Machines.{Frame, course, words_of, at_machine, IsResting, HasLeft, LeftSafe}
+use Rattle.trial_machine.specs.Goals.{Calls, NoGoal, AreKept, HoldsArguments, ArgumentsRead}
+use Rattle.trial_machine.specs.Machines.{Frame, course, words_of, at_machine, IsResting, IsOnWay, StepsOn, HasLeft, LeftSafe}
+use Rattle.trial_machine.specs.Running.{IsLast}
 use Rattle.trial_machine.proofs.Arguments.{none_kept}
+use Rattle.trial_machine.proofs.Calling.{calls_on}
 use Rattle.trial_machine.proofs.GoalWords.{same_number}
 use Rattle.trial_machine.proofs.Loading.{holds_free}
 use Rattle.trial_machine.proofs.Readiness.{rests_at, are_arguments, arguments_say}
@@ -82,10 +85,6 @@ assign_goal kept p n c w vs bound (assigns u e) t = record {
 pub not_assigned : (kept : WordList) (p n : ℕ) → Calls kept p ASSIGN_PROCEDURE n → (n ≡ 2 → ⊥) → NoGoal kept p
 not_assigned kept p n c other w vs bound g t = other (sym (assign_goal kept p n c w vs bound g t).count)
 
--- so many arguments, or fewer of them
-pub has_some : (kept : WordList) (p n m k : ℕ) → Calls kept p m n → k ≤ n → HasArguments kept p k
-has_some kept p n m k c l = (n, c.count, l)
-
 -- what its expression comes to
 expression_comes : (kept : WordList) (p n : ℕ) (d : Evaluated) (rs : List ℕ) → Calls kept p ASSIGN_PROCEDURE n → ExpressionSays kept p d rs
     → (w : Words) (vs : Addresses) (bound : Bindings) (g : Goal Variable) (t : IsTried kept p w vs bound g)
@@ -119,10 +118,13 @@ assign_of kept p n z rs c says m prog = record {
       subst (λ h. 0 ≡ vars_of (clause_used prog h k)) (sym a.is) refl;
 }
 
-pub assign_decided : (p n : ℕ) (z : ℤ) (rs : List ℕ) (old new : Machine) (d : Decided) → Calls old.trail.kept p ASSIGN_PROCEDURE n
-    → ExpressionSays old.trail.kept p (came.Value z) rs → Concludes (assign_frame z p) old new d → DecidesAll new p d
-assign_decided p n z rs old new d c says h = record {
-  says = λ prog. h.says prog (assign_of old.trail.kept p n z rs c says old prog);
+-- so it is decided at the end of the trial, by what was kept before
+pub assign_decided : (kept : WordList) (p n : ℕ) (z : ℤ) (rs : List ℕ) (old new : Machine) (d : Decided) → Calls kept p ASSIGN_PROCEDURE n
+    → ExpressionSays kept p (came.Value z) rs → ((a x : ℕ) → word_at kept a ≡ Some x → word_at old.trail.kept a ≡ Some x)
+    → Concludes (assign_frame z p) old new d → DecidesAll new p d
+assign_decided kept p n z rs old new d c says grows h = record {
+  says = λ prog. h.says prog (assign_of old.trail.kept p n z rs (calls_on kept old.trail.kept p ASSIGN_PROCEDURE n grows c)
+      (λ w vs bound t e tried. says w vs bound t e (tried_less kept old.trail.kept p w vs bound (assigns t e) grows tried)) old prog);
   handed = h.handed;
 }
 
@@ -148,7 +150,7 @@ pub wait_decided : (old new : Machine) (p n : ℕ) → Calls old.trail.kept p AS
 wait_decided old new p n c says opened none no_args left safe once = record {
   says = λ prog w vs bound g t.
       let a = expression_comes old.trail.kept p n came.Wait old.trail.reads.items c says w vs bound g
-          (subst (λ k. IsTried k p w vs bound g) left.kept t) in
+      (subst (λ k. IsTried k p w vs bound g) left.kept t) in
       subst (λ h. WaitSays prog w vs bound h new.waits) (sym a.0.is)
       (unready_so prog w vs bound a.0.target a.0.expression a.1.more new.waits a.1.variables
       (the_store new.trail.kept p w vs bound g t) a.1.value a.1.called (subst (λ l. laws.AreNoted [] l new.waits) a.1.read noted)
@@ -178,6 +180,19 @@ module _ {S : Type 0} {addresses : S → ℕ} {sound : S → Type 0} {knows : S 
         subst (λ h. laws.AreArguments v vs (arguments_of h) (words_of m.desk.slots.args)) (sym a.is)
         (arguments_say m.trail.kept v vs p 1 m.desk.slots.args (a.target ∷ []) kept t.has refl a.says);
   }) (assign_fresh z)
+
+  -- and then the try has begun, with the number in the second slot
+  pub assign_begun : (kept : WordList) (m b n : Machine) (w : S) (p k : ℕ) (z : ℤ) → IsStored addresses sound had shown later m.trail.kept w
+      → Calls kept p ASSIGN_PROCEDURE k → ((a x : ℕ) → word_at kept a ≡ Some x → word_at m.trail.kept a ≡ Some x)
+      → ArgumentsRead m p 1 true → ((f : Frame) (at : ℕ) → IsResting f at m → slice_get f.ops at ≡ Some (Try 0 4) → f.vars 0 ≡ 0
+      → IsOnWay f (suc at) b) → StepsOn b n (PutWord 1 (number z)) → n.desk.next ≡ 4 → IsLast (assign_frame z p) 2 n
+  assign_begun kept m b n w p k z stored c grows read begins puts next = record {
+    on_way = puts (assign_frame z p) 1 (begins (assign_frame z p) 0
+        (assign_ready m w p k z stored (calls_on kept m.trail.kept p ASSIGN_PROCEDURE k grows c) read.0 read.1) refl refl) refl;
+    unifies = refl;
+    commits = refl;
+    ends = ap (slice_get (assign_code z)) next;
+  }
 
   -- where nothing is bound, walks over what was kept end
   pub free_tame : (kept bs : WordList) (w : S) → IsStored addresses sound had shown later kept w → bs ≡ [] → Tame bs kept (own w)
