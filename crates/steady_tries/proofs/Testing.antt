@@ -69,7 +69,7 @@ among [] more a h = inr h
 among (b ∷ rs) more a (inl e) = inl (inl e)
 among (b ∷ rs) more a (inr k) = ⊎_elim (λ i. inl (inr i)) (λ i. inr i) (among rs more a k)
 
-each_one : (P : ℕ → Type 0) (rs : List ℕ) (a : ℕ) → Each P rs → IsIn a rs → P a
+pub each_one : (P : ℕ → Type 0) (rs : List ℕ) (a : ℕ) → Each P rs → IsIn a rs → P a
 each_one P [] a h i = absurd i
 each_one P (b ∷ rs) a h (inl e) = subst P e h.0
 each_one P (b ∷ rs) a h (inr k) = each_one P rs a h.1 k

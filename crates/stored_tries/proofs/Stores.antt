@@ -64,7 +64,7 @@ module _ {S : Type 0} {addresses : S → ℕ} {sound : S → Type 0} {knows : S 
     }
 
     -- the store has no own words
-    none_own : (a : ℕ) → own w a ≡ None
+    pub none_own : (a : ℕ) → own w a ≡ None
     none_own a = go (own w a) refl
       where
         go : (o : Option ℕ) → own w a ≡ o → own w a ≡ None

@@ -1,6 +1,7 @@
 -- The trials of built-in processes.
 use Rattle.std.proofs.Common.{◌≡◌, ◌⊎◌, ℕ, zero, suc, ◌+◌, ◌<◌, ◌≤◌, true, false, List, [], ◌∷◌, length, refl, sym, ap, ◌∙◌, subst}
 use Rattle.std.proofs.Common.{⊎_elim, inl, inr, arith, Option, Some, None}
+use Rattle.std.specs.Prelude.{slice_get}
 use Rattle.fcp_model.specs.Places.{Variable}
 use Rattle.fcp_model.specs.Terms.{Term, Bindings}
 use Rattle.fcp_model.specs.Programs.{Goal, user, true', unifies, assigns, Program}
@@ -28,11 +29,12 @@ use Rattle.trial_machine.specs.declared.machine.Turn.{Turn}
 use Rattle.trial_machine.specs.declared.machine.Turn.TheVariants as turn
 use Rattle.trial_machine.specs.declared.run.Outcome.{Outcome}
 use Rattle.trial_machine.specs.declared.run.Outcome.TheVariants as outcome
-use Rattle.machine_code.specs.Instructions.{Unify}
-use Rattle.trial_machine.specs.Running.{CameTo}
+use Rattle.machine_code.specs.Instructions.{Try, Unify}
+use Rattle.trial_machine.specs.Running.{CameTo, IsLast}
 use Rattle.trial_machine.specs.Machines.{Frame, course, words_of, IsResting, IsOnWay, Turns}
-use Rattle.trial_machine.specs.Goals.{Calls, NoGoal, AreKept, HoldsArguments, HasArguments}
+use Rattle.trial_machine.specs.Goals.{Calls, NoGoal, AreKept, HoldsArguments, HasArguments, ArgumentsRead}
 use Rattle.trial_machine.specs.Deciding.{Concludes, DecidesAll}
+use Rattle.trial_machine.proofs.Calling.{calls_on}
 use Rattle.trial_machine.proofs.GoalWords.{same_number}
 use Rattle.trial_machine.proofs.Readiness.{rests_at, are_arguments, arguments_say}
 
@@ -121,8 +123,8 @@ unify_of kept p n c m prog = record {
 pub not_two : (kept : WordList) (p n : ℕ) → Calls kept p UNIFY_PROCEDURE n → (n ≡ 2 → ⊥) → NoGoal kept p
 not_two kept p n c other w vs bound g t = other (sym (unify_goal kept p n c w vs bound g t).count)
 
-pub has_two : (kept : WordList) (p n m : ℕ) → Calls kept p m n → n ≡ 2 → HasArguments kept p 2
-has_two kept p n m c e = (n, c.count, omega (arith, e))
+pub has_some : (kept : WordList) (p n m k : ℕ) → Calls kept p m n → k ≤ n → HasArguments kept p k
+has_some kept p n m k c l = (n, c.count, l)
 
 -- no goal
 pub none_decided : (m : Machine) (p : ℕ) → NoGoal m.trail.kept p → DecidesAll m p Fails
@@ -162,14 +164,26 @@ module _ {S : Type 0} {addresses : S → ℕ} {sound : S → Type 0} {knows : S 
         (arguments_say m.trail.kept v vs p 2 m.desk.slots.args (u.left ∷ u.right ∷ []) kept t.has refl u.says);
   }) unify_fresh
 
--- where the unification of the two leads
-pub on_came : (p : ℕ) (old new : Machine) (t : Turn) (o : Outcome) → IsOnWay (unify_frame p) 1 old → Turns old new (Unify 0 1) t → t ≡
-    turn.On
-    → o ≡ outcome.Commits → CameTo new (unify_frame p) o
-on_came p old new t o way turns is e = subst (CameTo new (unify_frame p)) (sym e)
-    (2, subst (Turns old new (Unify 0 1)) is turns (unify_frame p) 1 way refl, refl)
+  -- the try of a process that unifies has begun
+  pub unify_begun : (kept : WordList) (m n : Machine) (w : S) (p k : ℕ) → IsStored addresses sound had shown later m.trail.kept w
+      → Calls kept p UNIFY_PROCEDURE k → ((a x : ℕ) → word_at kept a ≡ Some x → word_at m.trail.kept a ≡ Some x)
+      → ArgumentsRead m p 2 true → ((f : Frame) (at : ℕ) → IsResting f at m → slice_get f.ops at ≡ Some (Try 0 3) → f.vars 0 ≡ 0
+      → IsOnWay f (suc at) n) → n.desk.next ≡ 3 → IsLast (unify_frame p) 1 n
+  unify_begun kept m n w p k stored c grows read begins next = record {
+    on_way = begins (unify_frame p) 0 (unify_ready m w p k stored (calls_on kept m.trail.kept p UNIFY_PROCEDURE k grows c) read.0 read.1)
+        refl refl;
+    unifies = refl;
+    commits = refl;
+    ends = ap (slice_get unify_code) next;
+  }
 
-pub left_came : (p : ℕ) (old new : Machine) (t : Turn) (o : Outcome) → IsOnWay (unify_frame p) 1 old → old.desk.next ≡ 3
-    → Turns old new (Unify 0 1) t → t ≡ turn.Left → o ≡ outcome.Leaves → CameTo new (unify_frame p) o
-left_came p old new t o way next turns is e = subst (CameTo new (unify_frame p)) (sym e)
-    (3, subst (λ k. IsResting (unify_frame p) k new) next (subst (Turns old new (Unify 0 1)) is turns (unify_frame p) 1 way refl), refl)
+-- where the last unification of a trial leads
+pub on_came : (f : Frame) (at : ℕ) (old new : Machine) (t : Turn) (o : Outcome) → IsLast f at old → Turns old new (Unify 0 1) t
+    → t ≡ turn.On → o ≡ outcome.Commits → CameTo new f o
+on_came f at old new t o last turns is e = subst (CameTo new f) (sym e)
+    (suc at, subst (Turns old new (Unify 0 1)) is turns f at last.on_way last.unifies, last.commits)
+
+pub left_came : (f : Frame) (at : ℕ) (old new : Machine) (t : Turn) (o : Outcome) → IsLast f at old → Turns old new (Unify 0 1) t
+    → t ≡ turn.Left → o ≡ outcome.Leaves → CameTo new f o
+left_came f at old new t o last turns is e = subst (CameTo new f) (sym e)
+    (old.desk.next, subst (Turns old new (Unify 0 1)) is turns f at last.on_way last.unifies, last.ends)

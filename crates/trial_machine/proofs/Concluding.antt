@@ -20,9 +20,10 @@ use Rattle.stored_tries.proofs.Handing.{wait}
 use Rattle.machine_code.specs.Fresh.{no_tops}
 use Rattle.steady_tries.specs.Steady.{arguments_of}
 use Rattle.steady_tries.proofs.Ending.{commit_steady, fail_between, wait_between}
-use Rattle.steady_tries.proofs.Going.{the_store}
+use Rattle.steady_tries.proofs.Going.{the_store, tried_less}
 use Rattle.trial_machine.specs.declared.machine.Machine.{Machine}
 use Rattle.trial_machine.specs.declared.run.Outcome.TheVariants as outcome
+use Rattle.trial_machine.specs.declared.decide.Decided.{Decided}
 use Rattle.trial_machine.specs.declared.decide.Decided.TheVariants.{Commits, Waits, Fails}
 use Rattle.trial_machine.specs.Machines.{Frame, course, at_machine, IsOnWay, NoStore}
 use Rattle.trial_machine.specs.Running.{CameTo}
@@ -83,6 +84,17 @@ not_settled m n f h s same = record {
       absurd (s.3 ((terms_stand w vs bound f.ops (arguments_of g) h.0 (at_machine m) _ (the_store m.trail.kept f.process w vs bound g u)
       h.1.steady.safe.led.pieces stands).1 s.0 s.1 s.2));
   handed = tt;
+}
+
+-- what is concluded where more was kept is so by what was kept before
+pub concluded_before : (f : Frame) (old m new : Machine) (d : Decided)
+    → ((a x : ℕ) → word_at old.trail.kept a ≡ Some x → word_at m.trail.kept a ≡ Some x) → Concludes f m new d → Concludes f old new d
+concluded_before f old m new d grows h = record {
+  says = λ p is. h.says p (record {
+    source = λ w vs bound g t. is.source w vs bound g (tried_less old.trail.kept m.trail.kept f.process w vs bound g grows t);
+    vars = λ w vs bound g t. is.vars w vs bound g (tried_less old.trail.kept m.trail.kept f.process w vs bound g grows t);
+  });
+  handed = h.handed;
 }
 
 module _ {S : Type 0} {addresses : S → ℕ} {sound : S → Type 0} {knows : S → ℕ → Type 0} {had : S → ℕ → ℕ → Type 0} {leads : S → ℕ → Type 0}

@@ -21,3 +21,4 @@ pub mod Concluding
 pub mod Calling
 pub mod Readiness
 pub mod BuiltIns
+pub mod Assignments

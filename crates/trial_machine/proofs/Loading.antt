@@ -1,5 +1,5 @@
 -- Loads from the store, where nothing is bound.
-use Rattle.std.proofs.Common.{◌≡◌, ℕ, ◌<◌, ◌≤◌, [], refl, sym, ap, ◌∙◌, ⊎_elim, inl, inr, arith, Option, Some, None}
+use Rattle.std.proofs.Common.{◌≡◌, ℕ, ◌<◌, ◌≤◌, [], refl, sym, ap, ◌∙◌, subst, ⊎_elim, inl, inr, arith, Option, Some, None}
 use Rattle.std.specs.Prelude.{unwrap_or}
 use Rattle.heap_words.specs.WordsLaws.{WordsLaws}
 use Rattle.heap_words.specs.Trails.{WordList, word_at, Holds, KeepsLoads, Says}
@@ -74,3 +74,10 @@ module _ {S : Type 0} {addresses : S → ℕ} {sound : S → Type 0} {knows : S 
         (λ i. ⊎_elim (λ j. inl j) (λ j. inr (laws.gave_before w w1 w2 a x j l1)) (p.given a x i))
         (λ i. inr (laws.gave_after w w1 w2 a x l i)) (q.given a x e);
   }
+
+  -- so where nothing was kept between
+  pub loads_after : (kept kept1 kept1' kept2 : WordList) (w w1 w2 : S) → later w w1 → later w1 w2 → kept1' ≡ kept1
+      → Loads addresses sound had shown later gave kept w kept1 w1 → Loads addresses sound had shown later gave kept1' w1 kept2 w2
+      → Loads addresses sound had shown later gave kept w kept2 w2
+  loads_after kept kept1 kept1' kept2 w w1 w2 l l1 same p q = loads_on kept kept1 kept2 w w1 w2 l l1 p
+      (subst (λ (k : WordList). Loads addresses sound had shown later gave k w1 kept2 w2) same q)

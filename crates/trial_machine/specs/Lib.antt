@@ -4,3 +4,4 @@ pub mod Sides
 pub mod Running
 pub mod Goals
 pub mod Deciding
+pub mod Assigning

@@ -1,6 +1,6 @@
 -- How a try and a trial come to an end in a machine.
-use Rattle.std.specs.Prelude.{◌≡◌, ℕ, ◌<◌, Some, None, slice_get}
-use Rattle.machine_code.specs.Instructions.{Commit}
+use Rattle.std.specs.Prelude.{◌≡◌, ℕ, suc, ◌<◌, Some, None, slice_get}
+use Rattle.machine_code.specs.Instructions.{Unify, Commit}
 use Rattle.machine_code.specs.Compiling.{Tables, compiled}
 use Rattle.trial_machine.specs.declared.machine.Machine.{Machine}
 use Rattle.trial_machine.specs.declared.machine.Opened.{Opened}
@@ -66,3 +66,10 @@ CameTo new f outcome.Nowhere = NoStore f new
 -- so wherever a trial began
 abbrev pub EndsTrial : Tables → ℕ → Machine → Machine → ℕ → Outcome → Type 0
 EndsTrial t procedure old new at o = (f : Frame) → IsFrameOf t procedure f → IsResting f at old → CameTo new f o
+
+-- A try is on its way where the first two slots are unified, and then it commits; where it is left, the trial ends.
+pub record IsLast (f : Frame) (at : ℕ) (m : Machine) : Type 0 where
+  pub on_way : IsOnWay f at m
+  pub unifies : slice_get f.ops at ≡ Some (Unify 0 1)
+  pub commits : slice_get f.ops (suc at) ≡ Some Commit
+  pub ends : slice_get f.ops m.desk.next ≡ None

@@ -6,15 +6,17 @@ ghost use Rattle.word_states.specs.Pieces.{StartsAt};
 ghost use Rattle.trial_laws.specs.AtHand.{end_of};
 ghost use Rattle.trial_laws.specs.Leading.{IsTermWord};
 ghost use Rattle.safe_tries.specs.Stored.{IsStored};
-ghost use Rattle.trial_machine.specs.Deciding.{Decides, DecidesAll, ConcludesAll, Settles};
+ghost use Rattle.trial_machine.specs.Deciding.{Decides, DecidesAll, Concludes, ConcludesAll, Settles};
 ghost use Rattle.trial_machine.specs.Goals.{Calls, HasStatus, IsIdle};
 ghost use Rattle.trial_machine.specs.Machines.{Frame};
-ghost use Rattle.trial_machine.specs.Running.{CameTo};
+ghost use Rattle.trial_machine.specs.Running.{CameTo, IsLast};
 ghost use Rattle.trial_machine.specs.Stores.{Loads};
 
+use crate::assign::evaluate;
 use crate::machine::{Machine, Turn};
 use crate::run::Outcome;
 use fcp_model::{NoMemory, TRUE_PROCEDURE, UNIFY_PROCEDURE};
+use guard_tests::Evaluated;
 use heap_words::Words;
 use machine_code::Code;
 use try_desk::is_term;
@@ -85,6 +87,23 @@ impl Machine {
             },
             Outcome::Nowhere => Decided::Fails,
         }
+    }
+
+    /// Unifies the first two slots, where a commit comes next and no other try.
+    pub(crate) fn unify_last<W: Words>(&mut self, words: &mut W) -> Result<Decided, NoMemory>
+        requires stored { IsStored W.addresses W.sound W.had W.shown W.later self.old.trail.kept words.old }
+        requires last { (f : Frame) × (at : ℕ) × IsLast f at self.old }
+        ensures between { W.later words.old words.new }
+        ensures loaded { OnOk result (Loads W.addresses W.sound W.had W.shown W.later W.gave self.old.trail.kept words.old
+            self.new.trail.kept words.new) }
+        ensures concludes { IfOk result (λ d. (f : Frame) (at : ℕ) → IsLast f at self.old → Concludes f self.old self.new d) }
+        ensures count { length self.new.desk.slots.slots ≡ length self.old.desk.slots.slots }
+    {
+        let outcome = match self.unify(words, 0, 1)? {
+            Turn::On => Outcome::Commits,
+            Turn::Left => Outcome::Leaves,
+        };
+        Ok(self.conclude(words, outcome))
     }
 
     /// Decides a process that calls a procedure of the code with so many arguments.
@@ -168,14 +187,11 @@ impl Machine {
             return Ok(Decided::Fails);
         }
         self.begin_try(0, 3, 0)?;
-        let outcome = match self.unify(words, 0, 1)? {
-            Turn::On => Outcome::Commits,
-            Turn::Left => Outcome::Leaves,
-        };
-        Ok(self.conclude(words, outcome))
+        let decided = self.unify_last(words)?;
+        Ok(decided)
     }
 
-    /// Decides a process that assigns. It is not written yet: the answer is `NoMemory`.
+    /// Decides a process that assigns: it evaluates its second argument, and unifies the first one with the number.
     fn decide_assignment<W: Words>(
         &mut self,
         words: &mut W,
@@ -193,7 +209,22 @@ impl Machine {
         ensures decides { IfOk result (λ d. DecidesAll self.new process d) }
         ensures count { length self.new.desk.slots.slots ≡ length self.old.desk.slots.slots }
     {
-        Err(NoMemory)
+        if count != 2 {
+            return Ok(Decided::Fails);
+        }
+        match evaluate(&mut self.numbers, &mut self.trail, words, process)? {
+            Evaluated::Value(value) => {
+                // What the expression read is not the try's own.
+                self.trail.forget_reads();
+                let decided = self.assign(words, process, count, value)?;
+                Ok(decided)
+            }
+            Evaluated::Bad => Ok(Decided::Fails),
+            Evaluated::Wait => {
+                self.wait(words, process, count)?;
+                Ok(Decided::Waits)
+            }
+        }
     }
 
     /// Decides the process at an address, by words that it loads. The slots are as many as the code names, or more. An assignment is

@@ -1,6 +1,7 @@
 //! The machine that follows compiled code over words.
 #![tactic(auto)]
 
+mod assign;
 mod decide;
 mod goal;
 mod leave;

@@ -1,6 +1,6 @@
 -- A slot that has taken a constant.
 use Rattle.std.proofs.Common.{◌≡◌, ℕ, ◌+◌, ◌*◌, ◌<◌, ◌≤◌, Bool, true, false, cond, ℤ, pos, negsuc, ◌+ℤ◌, ◌*ℤ◌, ◌-ℤ◌}
-use Rattle.std.proofs.Common.{List, [], ◌∷◌, Option, Some, None, refl, ap, ◌∙◌, subst, inl, arith}
+use Rattle.std.proofs.Common.{List, [], ◌∷◌, Option, Some, None, refl, sym, ap, ◌∙◌, subst, inl, arith}
 use Rattle.std.specs.Prelude.{nat_lt}
 use Rattle.std.proofs.lemmas.Int.{ints}
 use Rattle.std.proofs.lemmas.Bool.Decides.{nat_tests}
@@ -58,13 +58,13 @@ pub number_taken : (old new : Desk) (i x : ℕ) (y z : ℤ) → decoded x ≡ So
 number_taken old new i x y z e k b = short x (λ u us. inl (e ∙ ap (λ (n : ℤ). Some (cell.Small n)) k)) b
 
 -- and a long one, by the word of its lower bits
-pub long_taken : (old new : Desk) (i x high : ℕ) (low l z : ℤ) → high < 256 → IsLow low → z ≡ reading.wide low high → IsLong z
+pub long_taken : (old new : Desk) (i x high : ℕ) (low l z y : ℤ) → high < 256 → IsLow low → reading.wide low high ≡ z → y ≡ z → IsLong y
     → decoded x ≡ Some (cell.Small l) → l ≡ low → end_of 4000000000 old.pieces + 1 ≤ 4294967296
     → Becomes old new (λ r. holding (with_piece r (x ∷ [])) i (encoded (cell.Wide (next_piece r) high)) false)
-    → TakesConstant old new i (number (reading.wide low high))
-long_taken old new i x high low l z h few e is d k room b =
-    long (reading.wide low high) low x high refl (d ∙ ap (λ (n : ℤ). Some (cell.Small n)) k) (wide_bits low high h few)
-    (subst IsLong e is) h room b
+    → TakesConstant old new i (number z)
+long_taken old new i x high low l z y h few is same e d k room b =
+    long z low x high refl (d ∙ ap (λ (n : ℤ). Some (cell.Small n)) k) (ap bits (sym is) ∙ wide_bits low high h few)
+    (subst IsLong same e) h room b
 
 -- a word without lower bits elsewhere denotes its constant
 plain_says : (smalls : List ℕ) (x : ℕ) (o : Option Cell) → decoded x ≡ o → wide_of o ≡ None → (u : Words) (us : Addresses)

@@ -1,11 +1,11 @@
 //! The instruction that puts a constant.
-ghost use Rattle.std.specs.Prelude.{◌≡◌, ◌<◌, Some, length, slice_get, IfSome, IfNone, OnOk};
+ghost use Rattle.std.specs.Prelude.{◌≡◌, ◌<◌, ◌≤ℤ◌, pos, Some, length, slice_get, IfSome, IfNone, OnOk};
 ghost use Rattle.heap_words.specs.Cells.{decoded};
 ghost use Rattle.heap_words.specs.declared.cell.Cell.TheVariants as cell;
 ghost use Rattle.fcp_model.specs.Terms.{number};
 ghost use Rattle.ro_unify.specs.Alike.{wide_of};
 ghost use Rattle.word_states.specs.Numbers.{IsLong};
-ghost use Rattle.machine_code.specs.Reading.{wide, small_in, small_of, constant};
+ghost use Rattle.machine_code.specs.Reading.{wide, low_bits, small_in, small_of, constant};
 ghost use Rattle.try_desk.specs.Constants.{TakesConstant, IsLow, plain_word};
 ghost use Rattle.try_desk.specs.Keeping.{KeepsDesk};
 
@@ -91,21 +91,45 @@ fn plain_word(word: u64) -> u64
     }
 }
 
+/// A number of 56 bits as a signed one.
+fn signed(bits: i64) -> i64
+    requires { (pos 0 ≤ℤ bits) × (bits ≤ℤ pos 0xffffffffffffff) }
+    ensures low { IsLow result }
+    ensures value { low_bits result ≡ bits }
+{
+    if bits < LOW / 2 { bits } else { bits - LOW }
+}
+
+/// The lower 56 bits of a number, as a signed number, and its upper eight.
+fn split(number: i64) -> (i64, u8)
+    ensures low { IsLow result.0 }
+    ensures value { wide result.0 result.1 ≡ number }
+{
+    if number < 0 {
+        let size = number.unsigned_abs() - 1;
+        (
+            signed(LOW - 1 - (size % LOW as u64) as i64),
+            255 - (size / LOW as u64) as u8,
+        )
+    } else {
+        (signed(number % LOW), (number / LOW) as u8)
+    }
+}
+
 impl Desk {
-    /// A slot takes the number of 64 bits with these lower 56 bits, as a signed number, and these upper eight: in one word if it is
-    /// short, or else by a new piece.
-    fn put_number(&mut self, slot: u32, low: i64, high: u8) -> Result<(), NoMemory>
-        requires slot { slot < length self.old.slots.slots }
-        requires low { IsLow low }
-        ensures takes { OnOk result (TakesConstant self.old self.new slot (number (wide low high))) }
+    /// A slot takes a number: in one word if it is short, or else by a new piece.
+    pub fn put_integer(&mut self, slot: u32, value: i64) -> Result<(), NoMemory>
+        requires { slot < length self.old.slots.slots }
+        ensures takes { OnOk result (TakesConstant self.old self.new slot (number value)) }
         ensures keeps { KeepsDesk self.old self.new }
     {
-        match short_word(wide(low, high)) {
+        match short_word(value) {
             Some(word) => {
                 self.put_word(slot, word);
                 Ok(())
             }
             None => {
+                let (low, high) = split(value);
                 self.put_wide(slot, encode(Cell::Small(low)), high)?;
                 Ok(())
             }
@@ -119,7 +143,7 @@ impl Desk {
         ensures keeps { KeepsDesk self.old self.new }
     {
         match wide_in(word) {
-            Some((at, high)) => self.put_number(slot, small_at(code, at), high),
+            Some((at, high)) => self.put_integer(slot, wide(small_at(code, at), high)),
             None => {
                 self.put_word(slot, plain_word(word));
                 Ok(())
