@@ -1,7 +1,8 @@
 //! The commands, as the parser of command lines is told them.
-ghost use Rattle.std.specs.Prelude.{◌≡◌, IfErr, IfOk, map};
+ghost use Rattle.std.specs.Prelude.{◌≡◌, IfErr, IfOk, false, map};
 ghost use Rattle.std.specs.String.{string_bytes};
-ghost use Rattle.clap.specs.Words.{FailsBy, app_of, fault_of, fields_of, kind_of, rule_of, subcommand_of, subcommand_rows_of};
+ghost use Rattle.clap.specs.Words.{FailsBy, app_of, fault_of, kind_of, rule_of, subcommand_of, subcommand_rows_of};
+ghost use Rattle.clap.specs.declared.builder.command.Command.TheViews.{out-Command};
 ghost use Rattle.clap.specs.declared.error.kind.ErrorKind.TheVariants.{OutOfMemory};
 ghost use Rattle.command_words.specs.Commands.{logix, option_rule, run, show};
 ghost use Rattle.command_words.specs.Orders.{Parses, fault_by};
@@ -56,7 +57,7 @@ fn logix<'a>(alloc: Global) -> Result<Command<'a>, Error>
 /// `run FILE GOAL`, with its options.
 fn run<'a>(alloc: Global) -> Result<Command<'a>, Error>
     ensures shape { IfOk result (λ c. app_of c ≡ run) }
-    ensures local { IfOk result (λ c. (fields_of c).has_globals ≡ false) }
+    ensures local { IfOk result (λ c. (out-Command c).has_globals ≡ false) }
     ensures memory { IfErr result (λ e. kind_of e ≡ OutOfMemory) }
 {
     let command = Command::new(alloc, "run")
@@ -73,13 +74,14 @@ fn option<'a>(alloc: Global, option: RunOption) -> Arg<'a>
     ensures rule { rule_of result ≡ option_rule option }
     ensures local { result.global ≡ false }
 {
-    Arg::new(alloc, option.name()).long(option.name())
+    let name: &'a str = option.name();
+    Arg::new(alloc, name).long(name)
 }
 
 /// `show FILE`.
 fn show<'a>(alloc: Global) -> Result<Command<'a>, Error>
     ensures shape { IfOk result (λ c. app_of c ≡ show) }
-    ensures local { IfOk result (λ c. (fields_of c).has_globals ≡ false) }
+    ensures local { IfOk result (λ c. (out-Command c).has_globals ≡ false) }
     ensures memory { IfErr result (λ e. kind_of e ≡ OutOfMemory) }
 {
     let command = Command::new(alloc, "show").arg(Arg::new(alloc, "file"))?;

@@ -1,6 +1,6 @@
 //! What the parser's matches ask for.
-ghost use Rattle.std.specs.Prelude.{◌≡◌};
-ghost use Rattle.clap.specs.Words.{found_of, rows_of, subcommand_rows_of};
+ghost use Rattle.std.specs.Prelude.{◌≡◌, option_map};
+ghost use Rattle.clap.specs.Words.{first_of, found_of, rows_of, subcommand_rows_of};
 ghost use Rattle.command_words.specs.Orders as spec;
 
 use crate::{Order, RunOption, WordFault};
@@ -29,10 +29,7 @@ pub fn order_in(alloc: Global, matches: &ArgMatches<'_>) -> Result<Order, WordFa
 fn run_in(alloc: Global, matches: &ArgMatches<'_>) -> Result<Order, WordFault>
     ensures { spec.Answers (spec.run_in (rows_of (found_of matches.now))) result }
 {
-    let file = matches.get_str("file");
-    let goal = matches.get_str("goal");
-    let limits = limits_in(matches);
-    match (file, goal, limits) {
+    match (word(matches, "file"), word(matches, "goal"), limits_in(matches)) {
         (Some(file), Some(goal), Some(limits)) => Ok(Order::Run {
             file: Text::make(alloc, file)?,
             goal: Text::make(alloc, goal)?,
@@ -46,7 +43,7 @@ fn run_in(alloc: Global, matches: &ArgMatches<'_>) -> Result<Order, WordFault>
 fn show_in(alloc: Global, matches: &ArgMatches<'_>) -> Result<Order, WordFault>
     ensures { spec.Answers (spec.show_in (rows_of (found_of matches.now))) result }
 {
-    match matches.get_str("file") {
+    match word(matches, "file") {
         Some(file) => Ok(Order::Show {
             file: Text::make(alloc, file)?,
         }),
@@ -69,8 +66,15 @@ fn limits_in(matches: &ArgMatches<'_>) -> Option<Limits>
 fn number_in(matches: &ArgMatches<'_>, option: RunOption) -> Option<u32>
     ensures { result ≡ spec.number_in option (rows_of (found_of matches.now)) }
 {
-    match matches.get_str(option.name()) {
+    match word(matches, option.name()) {
         Some(digits) => number_of(digits.as_bytes(), MOST_DIGITS, option.most()),
         None => Some(option.default_number()),
     }
+}
+
+/// The value of an argument, if it was given.
+fn word<'a>(matches: &ArgMatches<'a>, id: &str) -> Option<&'a str>
+    ensures { option_map (λ s. s.now) result ≡ first_of id.now (rows_of (found_of matches.now)) }
+{
+    matches.get_str(id)
 }
