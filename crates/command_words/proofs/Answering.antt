@@ -1,5 +1,5 @@
 -- What words are answered.
-use Rattle.std.proofs.Common.{◌≡◌, ℕ, Bool, true, false, List, [], ◌∷◌, ◌++◌, map, Option, Some, None, ap, sym, ◌∙◌, subst, refl, ◌⊎◌, inl, inr}
+use Rattle.std.proofs.Common.{◌≡◌, true, false, List, [], ◌∷◌, ◌++◌, map, Some, None, ap, sym, ◌∙◌, subst, refl, ◌⊎◌, inl, inr}
 use Rattle.std.specs.Prelude.{◌&&◌, codes, IfOk, IsTrue, Result, Ok, Err}
 use Rattle.std.specs.List.{list_all}
 use Rattle.std.specs.Str.{bytes_eq}
@@ -8,10 +8,9 @@ use Rattle.fcp_model.specs.declared.run.Limits.{Limits}
 use Rattle.fcp_model.specs.Spelling.{Bytes}
 use Rattle.clap.specs.declared.parser.matches.ArgMatches.{ArgMatches}
 use Rattle.clap.specs.declared.error.kind.ErrorKind.TheVariants.{InvalidSubcommand, UnknownArgument}
-use Rattle.clap.specs.Kinds.{Kinds}
-use Rattle.clap.specs.Simple.{Shape, subcommand_of}
+use Rattle.clap.specs.Simple.{subcommand_of}
 use Rattle.clap.specs.Faults.{fault_of, turn_fault, walk_fault}
-use Rattle.clap.specs.Walk.{nothing_held, walk_from, walked}
+use Rattle.clap.specs.Walk.{nothing_held, walk_from}
 use Rattle.clap.specs.Words.{subcommand_rows_of}
 use Rattle.command_words.specs.declared.order.Order.{Order}
 use Rattle.command_words.specs.declared.order.Order.TheVariants.{Run, Show}
@@ -78,7 +77,8 @@ record IsTaken (words : List Bytes) (o : Order) : Type 0 where
   pub passes : fault_of logix words ≡ []
   pub finds : order_in (subcommand_of logix words) ≡ Some o
 
-run-reading : (words : List Bytes) (o : Order) → list_all is_allowed (codes "run" ∷ words) ≡ true → fault_of logix (codes "run" ∷ words) ≡ []
+run-reading : (words : List Bytes) (o : Order) → list_all is_allowed (codes "run" ∷ words) ≡ true
+    → fault_of logix (codes "run" ∷ words) ≡ []
     → order_in (subcommand_of logix (codes "run" ∷ words)) ≡ Some o
     → IsReading (codes "run" ∷ words) o
 run-reading words o allowed passes finds =
@@ -138,13 +138,15 @@ taken-reading (w ∷ words) o allowed passes finds =
 
 -- ---- and what words ask for is what the parser takes and finds
 
-run-is-taken : (words : List Bytes) (file goal : Bytes) (limits : Limits) (parts : List Part) → list_all is_proper (codes "run" ∷ words) ≡ true
+run-is-taken : (words : List Bytes) (file goal : Bytes) (limits : Limits) (parts : List Part)
+    → list_all is_proper (codes "run" ∷ words) ≡ true
     → AreRunParts words parts file goal limits
     → IsTaken (codes "run" ∷ words) (Run file goal limits)
 run-is-taken words file goal limits parts proper a =
     let t = run-taken words parts file goal limits a in
     record {
-      allowed = allowed-all (codes "run" ∷ words) proper (two-whole (is_long_or_plain (codes "run")) (list_all is_long_or_plain words) refl t.formed);
+      allowed = allowed-all (codes "run" ∷ words) proper
+          (two-whole (is_long_or_plain (codes "run")) (list_all is_long_or_plain words) refl t.formed);
       passes = run-fault words ∙ t.passes;
       finds = ap order_in (run-rows words) ∙ t.finds;
     }
@@ -160,7 +162,8 @@ show-is-taken file proper plain = record {
 reading-taken : (words : List Bytes) (o : Order) → IsReading words o → IsTaken words o
 reading-taken words (Run file goal limits) r =
     subst (λ x. IsTaken x (Run file goal limits)) (sym r.asks.command)
-    (run-is-taken r.asks.behind file goal limits r.asks.parts (subst (λ x. list_all is_proper x ≡ true) r.asks.command r.asks.proper) r.asks.are_parts)
+    (run-is-taken r.asks.behind file goal limits r.asks.parts
+    (subst (λ x. list_all is_proper x ≡ true) r.asks.command r.asks.proper) r.asks.are_parts)
 reading-taken words (Show file) r =
     subst (λ x. IsTaken x (Show file)) (sym r.asks.command)
     (show-is-taken file (subst (λ x. list_all is_proper x ≡ true) r.asks.command r.asks.proper) r.asks.plain)

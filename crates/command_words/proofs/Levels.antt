@@ -1,13 +1,13 @@
 -- What the parser makes of the words of a call is what it makes of the words behind the command.
-use Rattle.std.proofs.Common.{◌≡◌, ℕ, Bool, true, false, List, [], ◌∷◌, ◌++◌, Option, Some, None, ap, sym, ◌∙◌, subst, refl}
+use Rattle.std.proofs.Common.{◌≡◌, ℕ, true, false, List, [], ◌∷◌, Option, Some, None, ap, sym, ◌∙◌, refl}
 use Rattle.std.specs.Prelude.{codes, fold, is_some}
 use Rattle.fcp_model.specs.Spelling.{Bytes}
 use Rattle.clap.specs.declared.builder.action.ArgAction.TheVariants.{Set}
 use Rattle.clap.specs.declared.builder.value_parser.ValueParser.TheVariants as parser
-use Rattle.clap.specs.Walk.{Rule, Row, Names, Walk, finished, rows_after, nothing_held, settled, walk, walk_from, walked}
-use Rattle.clap.specs.Simple.{App, Shape, built, entered, new_rule, subcommand_of}
+use Rattle.clap.specs.Walk.{Rule, Names, Walk, finished, rows_after, nothing_held, settled, walk, walk_from, walked}
+use Rattle.clap.specs.Simple.{Shape, built, entered, new_rule, subcommand_of}
 use Rattle.clap.specs.Kinds.{Kinds, or_else}
-use Rattle.clap.specs.Faults.{check_fault, defaults_fault, entered_fault, fault_of, is_simple_and_free, level_fault, settle_fault, walk_fault}
+use Rattle.clap.specs.Faults.{check_fault, defaults_fault, entered_fault, fault_of, level_fault, settle_fault, walk_fault}
 use Rattle.clap.proofs.FaultLemmas.{stopped_fault}
 use Rattle.clap.proofs.WalkLemmas.{walk_stopped}
 use Rattle.command_words.specs.declared.run_option.RunOption.{RunOption}
@@ -51,9 +51,6 @@ run_leaf = leaf run.top run_rules
 
 abbrev pub show_leaf : Shape
 show_leaf = leaf show.top (file_rule ∷ [])
-
-pub simple : is_simple_and_free logix ≡ true
-simple = refl
 
 -- ---- behind the commands
 
@@ -108,6 +105,7 @@ pub run-rows : (words : List Bytes) → subcommand_of logix (codes "run" ∷ wor
 unfolding walked
 run-rows words = ap (entered (built logix)) (stops (codes "run") words refl)
 
-pub show-rows : (words : List Bytes) → subcommand_of logix (codes "show" ∷ words) ≡ Some (codes "show", rows_after (file_rule ∷ []) [] words)
+pub show-rows : (words : List Bytes)
+    → subcommand_of logix (codes "show" ∷ words) ≡ Some (codes "show", rows_after (file_rule ∷ []) [] words)
 unfolding walked
 show-rows words = ap (entered (built logix)) (stops (codes "show") words refl)

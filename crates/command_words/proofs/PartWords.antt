@@ -1,6 +1,6 @@
 -- The words that the parser takes behind `run` are those of parts.
-use Rattle.std.proofs.Common.{◌≡◌, ℕ, Bool, true, false, List, [], ◌∷◌, ◌++◌, Option, Some, None, ap, sym, ◌∙◌, subst, refl, ◌⊎◌, inl, inr}
-use Rattle.std.specs.Prelude.{◌&&◌, codes, fold}
+use Rattle.std.proofs.Common.{◌≡◌, true, false, List, [], ◌∷◌, ◌++◌, Some, None, ap, sym, ◌∙◌, subst, refl, ◌⊎◌, inl, inr}
+use Rattle.std.specs.Prelude.{codes, fold}
 use Rattle.std.specs.List.{list_all}
 use Rattle.fcp_model.specs.Spelling.{Bytes}
 use Rattle.clap.specs.declared.error.kind.ErrorKind.TheVariants.{InvalidValue, UnknownArgument}
@@ -122,7 +122,8 @@ number-ready o v rows place tidy e =
     (number-placed o place v rows (used (number_rule o) (v ∷ []) rows) tidy.0 u, u.single tidy.1)
 
 module _ (w : Bytes) (ws : List Bytes) (rest : AreRead ws) (formed : list_all is_long_or_plain ws ≡ true) where
-  file-read : (rows : List Row) (p : Pending) → IsReady (idle rows p first) → is_plain w ≡ true → Passes (walk_at (idle rows p first)) (w ∷ ws)
+  file-read : (rows : List Row) (p : Pending) → IsReady (idle rows p first) → is_plain w ≡ true
+      → Passes (walk_at (idle rows p first)) (w ∷ ws)
       → AreReadFrom (idle rows p first) (w ∷ ws)
   file-read rows p ready plain_word h =
       let now = rows_after_use rows p in
@@ -134,9 +135,9 @@ module _ (w : Bytes) (ws : List Bytes) (rest : AreRead ws) (formed : list_all is
       let u = is-used (codes "file") None (Some 1) w now here.0.0 in (
         k.0,
         one-more (positional w) (w ∷ ws) ws now after (rows_behind (idle_at rows p 1) (w ∷ ws)) (rows_behind (idle_at now s 2) ws)
-        (file-found w now after here.0 u) plain_word (λ ps e. ap (λ x. w ∷ x) e)
-        (same-end (idle_at rows p 1) (idle_at now s 2) (settle rows p) w ws t)
-        (rest (idle now s second) (λ e. (file-placed w now after here.0 u, u.single here.1)) formed k.1).1,
+            (file-found w now after here.0 u) plain_word (λ ps e. ap (λ x. w ∷ x) e)
+            (same-end (idle_at rows p 1) (idle_at now s 2) (settle rows p) w ws t)
+            (rest (idle now s second) (λ e. (file-placed w now after here.0 u, u.single here.1)) formed k.1).1,
       )
 
   goal-read : (rows : List Row) (p : Pending) → IsReady (idle rows p second) → is_plain w ≡ true
@@ -152,9 +153,9 @@ module _ (w : Bytes) (ws : List Bytes) (rest : AreRead ws) (formed : list_all is
       let u = is-used (codes "goal") None (Some 2) w now here.0.1 in (
         k.0,
         one-more (positional w) (w ∷ ws) ws now after (rows_behind (idle_at rows p 2) (w ∷ ws)) (rows_behind (idle_at now s 3) ws)
-        (goal-found w now after here.0 u) plain_word (λ ps e. ap (λ x. w ∷ x) e)
-        (same-end (idle_at rows p 2) (idle_at now s 3) (settle rows p) w ws t)
-        (rest (idle now s full) (λ e. (goal-placed w now after here.0 u, u.single here.1)) formed k.1).1,
+            (goal-found w now after here.0 u) plain_word (λ ps e. ap (λ x. w ∷ x) e)
+            (same-end (idle_at rows p 2) (idle_at now s 3) (settle rows p) w ws t)
+            (rest (idle now s full) (λ e. (goal-placed w now after here.0 u, u.single here.1)) formed k.1).1,
       )
 
   failed-turn : (from : Walk) → (turn_fault run_leaf [] from w ≡ [] → ⊥) → Passes from (w ∷ ws) → ⊥
@@ -204,9 +205,10 @@ module _ (w : Bytes) (ws : List Bytes) (rest : AreRead ws) (formed : list_all is
       let n = number-used o v now both.1 in (
         both.0,
         one-more (joined o v) (w ∷ ws) ws now after (rows_behind from (w ∷ ws)) (rows_behind next ws)
-        (joined-found o v now after (apart-found o v now after n.0 n.1)) refl (λ ps a. ap (λ x. x ∷ ws) e ∙ ap (λ x. (option_word o ++ codes "=" ++ v) ∷ x) a)
-        (same-end from next kinds w ws t)
-        (rest (idle after None place) (λ a. number-ready o v now place here both.1) formed k.1).1,
+            (joined-found o v now after (apart-found o v now after n.0 n.1)) refl
+            (λ ps a. ap (λ x. x ∷ ws) e ∙ ap (λ x. (option_word o ++ codes "=" ++ v) ∷ x) a)
+            (same-end from next kinds w ws t)
+            (rest (idle after None place) (λ a. number-ready o v now place here both.1) formed k.1).1,
       )
 
   apart-read : (o : RunOption) (rows : List Row) (p : Pending) (place : Place) → IsReady (idle rows p place) → w ≡ option_word o
@@ -220,8 +222,8 @@ module _ (w : Bytes) (ws : List Bytes) (rest : AreRead ws) (formed : list_all is
       let k = passes-turn from next (settle rows p) w ws t h in (
         k.0,
         subst (λ x. ArePartWords (x ∷ ws) now (rows_behind from (w ∷ ws))) (sym e)
-        (subst (ArePartWords (option_word o ∷ ws) now) (sym (same-end from next (settle rows p) w ws t))
-        (rest (awaiting o now place) (ready k.0) formed k.1)),
+            (subst (ArePartWords (option_word o ∷ ws) now) (sym (same-end from next (settle rows p) w ws t))
+            (rest (awaiting o now place) (ready k.0) formed k.1)),
       )
 
   long-read : (rows : List Row) (p : Pending) (place : Place) → IsReady (idle rows p place) → IsLong w → LongForm w

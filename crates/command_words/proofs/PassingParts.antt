@@ -1,6 +1,6 @@
 -- The words of parts that ask for something are taken by the parser behind `run`.
-use Rattle.std.proofs.Common.{◌≡◌, ℕ, Bool, true, false, List, [], ◌∷◌, ◌++◌, Option, Some, None, ap, sym, ◌∙◌, subst, refl, ◌⊎◌, inl, inr}
-use Rattle.std.specs.Prelude.{◌==◌, ◌&&◌, ◌||◌, codes, if◌then◌else◌, not}
+use Rattle.std.proofs.Common.{◌≡◌, ℕ, true, false, List, [], ◌∷◌, ◌++◌, Some, None, ap, sym, ◌∙◌, subst, refl, ◌⊎◌, inl, inr}
+use Rattle.std.specs.Prelude.{◌==◌, ◌||◌, codes, if◌then◌else◌, not}
 use Rattle.std.specs.Char.{is_ascii_digit}
 use Rattle.std.specs.List.{list_all}
 use Rattle.std.proofs.lemmas.Bool.{eqb-true}
@@ -17,8 +17,8 @@ use Rattle.command_words.specs.Readings.{Gives, Part, apart, is_plain, is_plain_
 use Rattle.command_words.proofs.Forms.{true-or-false, two-parts, two-whole}
 use Rattle.command_words.proofs.Levels.{file_rule, goal_rule, number_rule, run_leaf, run_rules}
 use Rattle.command_words.proofs.PartWords.{IsTidy, Passes, end_of, rows_behind}
-use Rattle.command_words.proofs.Rows.{IsUsed, are_single, is-used, no-row, one-text, texts_at}
-use Rattle.command_words.proofs.Tallies.{HasFound, IsAt, IsFound, Place, apart-found, file-found, file-placed, first, found-more, found-none, full, goal-found, goal-placed, joined-found, number-placed, place_index, second, values_with, words_with}
+use Rattle.command_words.proofs.Rows.{are_single, is-used, no-row, one-text, texts_at}
+use Rattle.command_words.proofs.Tallies.{HasFound, IsFound, Place, apart-found, file-found, file-placed, first, found-more, found-none, full, goal-found, goal-placed, joined-found, number-placed, place_index, second, values_with, words_with}
 use Rattle.command_words.proofs.Turns.{IsTurn, Pending, apart-turn, awaiting_at, file-turn, goal-turn, idle_at, joined-turn, rows-number, rows_after_use, settle, settle-number, turned, use-passes, value-turn}
 
 -- ---- numbers have no `-` in front
@@ -209,7 +209,6 @@ module _ (ps : List Part) (rest : AreTakenFrom ps) (rows : List Row) (p : Pendin
 
   -- a value of an option that has none yet
   record IsNew (o : RunOption) (v : Bytes) (place : Place) : Type 0 where
-    pub free : has_row (name_of o) now ≡ false
     pub plain : is_plain v ≡ true
     pub tidy : IsTidy place (used (number_rule o) (v ∷ []) now)
     pub passes : use_fault false (number_rule o) (v ∷ []) now ≡ []
@@ -218,14 +217,14 @@ module _ (ps : List Part) (rest : AreTakenFrom ps) (rows : List Row) (p : Pendin
   is-new : (o : RunOption) (v : Bytes) (place : Place) → IsTidy place now → AsksWith now (apart o v ∷ ps) → IsNew o v place
   is-new o v place tidy asks =
       let values : Gives (default_of o) (most_of o) (texts_at (name_of o) now ++ v ∷ values_of o ps) (asks.numbers o) =
-      subst (λ b. Gives (default_of o) (most_of o) (texts_at (name_of o) now ++ (if b then v ∷ values_of o ps else values_of o ps)) (asks.numbers o))
+      subst (λ b. Gives (default_of o) (most_of o)
+      (texts_at (name_of o) now ++ (if b then v ∷ values_of o ps else values_of o ps)) (asks.numbers o))
       (same-self o) (asks.values o) in
       let alone = given-alone (default_of o) (most_of o) (asks.numbers o) (texts_at (name_of o) now) v (values_of o ps) values in
       let free = no-row (name_of o) now tidy.1 alone.0 in
       let u = is-used (name_of o) (Some (name_of o)) None v now free in
       let after = used (number_rule o) (v ∷ []) now in
       record {
-        free = free;
         plain = number-plain 8 (most_of o) v (asks.numbers o) alone.1;
         tidy = (number-placed o place v now after tidy.0 u, u.single tidy.1);
         passes = use-passes (name_of o) (Some (name_of o)) None v now free;
@@ -259,7 +258,8 @@ module _ (ps : List Part) (rest : AreTakenFrom ps) (rows : List Row) (p : Pendin
       part-taken (idle_at rows p k) (joined o v) ((option_word o ++ codes "=" ++ v) ∷ words_of ps) now after ps found
       (word-taken (idle_at rows p k) (idle_at after None k) (or_else (settle rows p) (use_fault false (number_rule o) (v ∷ []) now))
       (option_word o ++ codes "=" ++ v) (words_of ps) after ps
-      (joined-turn o rows p k v) (ap (λ x. or_else x (use_fault false (number_rule o) (v ∷ []) now)) settles ∙ new.passes) (joined-stands o v)
+      (joined-turn o rows p k v) (ap (λ x. or_else x (use_fault false (number_rule o) (v ∷ []) now)) settles ∙ new.passes)
+      (joined-stands o v)
       (rest after None place new.tidy refl (asks-behind (joined o v) ps now after found asks.plain asks)))
 
   part-goes : (part : Part) (place : Place) → IsTidy place now → AsksWith now (part ∷ ps)

@@ -1,6 +1,6 @@
 -- What the parser has found after a use of an argument.
 use Rattle.std.proofs.Common.{◌≡◌, ℕ, Bool, true, false, List, [], ◌∷◌, ◌++◌, Option, Some, None, ap, sym, ◌∙◌, subst, refl, ◌⊎◌, inl, inr}
-use Rattle.std.specs.Prelude.{◌&&◌, ◌||◌, cond, find, if◌then◌else◌, option_and_then, slice_get}
+use Rattle.std.specs.Prelude.{◌||◌, cond, find, if◌then◌else◌, option_and_then, slice_get}
 use Rattle.std.specs.List.{list_all}
 use Rattle.std.specs.Option.{option_map_or}
 use Rattle.std.specs.Str.{bytes_eq}
@@ -8,7 +8,7 @@ use Rattle.std.proofs.lemmas.List.{append-nil}
 use Rattle.std.proofs.lemmas.Slice.Eq.{bytes_eq-Decides}
 use Rattle.fcp_model.specs.Spelling.{Bytes}
 use Rattle.clap.specs.declared.parser.matches.ValueSource.TheVariants.{CommandLine}
-use Rattle.clap.specs.Walk.{Row, Rule, at_row, first_of, has_row, more_values, reading_by, used, without}
+use Rattle.clap.specs.Walk.{Row, Rule, at_row, first_of, has_row, more_values, reading_by, used}
 use Rattle.command_words.proofs.Forms.{is_word, true-or-false, two-parts, two-whole}
 use Rattle.command_words.proofs.Levels.{given_rule}
 
@@ -159,7 +159,8 @@ pub more-texts : (id v : Bytes) (rows after : List Row) → IsUsed id v rows aft
     → texts_at i after ++ vs ≡ texts_at i rows ++ (if bytes_eq id i then v ∷ vs else vs)
 more-texts id v rows after u e i vs = go (true-or-false (bytes_eq id i))
   where
-    go : (bytes_eq id i ≡ true) ⊎ (bytes_eq id i ≡ false) → texts_at i after ++ vs ≡ texts_at i rows ++ (if bytes_eq id i then v ∷ vs else vs)
+    go : (bytes_eq id i ≡ true) ⊎ (bytes_eq id i ≡ false)
+        → texts_at i after ++ vs ≡ texts_at i rows ++ (if bytes_eq id i then v ∷ vs else vs)
     go (inl t) =
         let none : texts_at i rows ≡ [] = subst (λ x. texts_at x rows ≡ []) (is_word id i t) (none-texts id rows e) in
         let one : texts_at i after ≡ v ∷ [] = u.texts i ∙ rw t in

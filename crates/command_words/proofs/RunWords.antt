@@ -6,9 +6,9 @@ use Rattle.fcp_model.specs.declared.run.Limits.{Limits}
 use Rattle.fcp_model.specs.Spelling.{Bytes}
 use Rattle.clap.specs.Kinds.{Kinds, or_else}
 use Rattle.clap.specs.Faults.{check_fault, default_fault, defaults_fault, level_fault, settle_fault, walk_fault}
-use Rattle.clap.specs.Walk.{Row, Rule, first_of, finished, has_row, nothing_held, rows_after, settled, walk, walk_from, with_default}
+use Rattle.clap.specs.Walk.{Row, Rule, first_of, finished, has_row, nothing_held, rows_after, settled, walk, with_default}
 use Rattle.command_words.specs.declared.order.Order.{Order}
-use Rattle.command_words.specs.declared.order.Order.TheVariants.{Run, Show}
+use Rattle.command_words.specs.declared.order.Order.TheVariants.{Run}
 use Rattle.command_words.specs.declared.run_option.RunOption.{RunOption}
 use Rattle.command_words.specs.declared.run_option.RunOption.TheVariants.{Commits, Moves, Cells}
 use Rattle.command_words.specs.Commands.{default_of, most_of, name_of}
@@ -57,7 +57,8 @@ abbrev end_kinds : List Bytes → Kinds
 end_kinds words = settle_fault run_rules false (walk run_rules [] nothing_held words).held
 
 -- what the level of `run` comes to
-run-level : (words : List Bytes) → level_fault run_leaf [] nothing_held words false [] ≡ or_else (start_kinds words) (or_else (end_kinds words) [])
+run-level : (words : List Bytes)
+    → level_fault run_leaf [] nothing_held words false [] ≡ or_else (start_kinds words) (or_else (end_kinds words) [])
 run-level words =
     let end = (walk run_rules [] nothing_held words).held in
     ap (λ k. or_else (start_kinds words) (or_else (end_kinds words) (or_else k (check_fault run_leaf (finished run_rules end) false))))
@@ -166,7 +167,8 @@ pub record IsRunFrom (file goal : Option Bytes) (limits : Option Limits) (o : Or
   pub are_limits : limits ≡ Some the_limits
   pub is_order : o ≡ Run the_file the_goal the_limits
 
-is-run-from : (file goal : Option Bytes) (limits : Option Limits) (o : Order) → run_from file goal limits ≡ Some o → IsRunFrom file goal limits o
+is-run-from : (file goal : Option Bytes) (limits : Option Limits) (o : Order) → run_from file goal limits ≡ Some o
+    → IsRunFrom file goal limits o
 is-run-from None goal limits o e = cc
 is-run-from (Some f) None limits o e = cc
 is-run-from (Some f) (Some g) None o e = cc

@@ -1,10 +1,9 @@
 -- The words behind `show` that the parser takes, and what it finds there, ask for a file to be shown.
-use Rattle.std.proofs.Common.{◌≡◌, Bool, true, false, List, [], ◌∷◌, Option, Some, None, ap, sym, ◌∙◌, subst, refl, ◌⊎◌, inl, inr}
-use Rattle.std.specs.Prelude.{◌&&◌, codes}
+use Rattle.std.proofs.Common.{◌≡◌, true, false, List, [], ◌∷◌, Some, ap, sym, ◌∙◌, refl, ◌⊎◌, inl, inr}
+use Rattle.std.specs.Prelude.{codes}
 use Rattle.std.specs.List.{list_all}
 use Rattle.fcp_model.specs.Spelling.{Bytes}
 use Rattle.clap.specs.declared.error.kind.ErrorKind.TheVariants.{UnknownArgument}
-use Rattle.clap.specs.Kinds.{Kinds, or_else}
 use Rattle.clap.specs.Faults.{defaults_fault, level_fault, turn_fault, walk_fault}
 use Rattle.clap.specs.Walk.{Rule, Walk, nothing_held, rows_after, walk_from, walked}
 use Rattle.command_words.specs.declared.order.Order.{Order}
@@ -22,9 +21,6 @@ show_rules = file_rule ∷ []
 module _ (w : Bytes) (plain_word : is_plain w ≡ true) where
   behind-file : Walk
   behind-file = idle_at [] (Some (codes "file", w ∷ [])) 2
-
-  file-passes : turn_fault show_leaf [] (walk_from nothing_held) w ≡ []
-  file-passes = let p = plain-word w plain_word in rw (p.no_end, p.no_long, p.no_short)
 
   file-leads : walked show_rules [] (walk_from nothing_held) w ≡ behind-file
   unfolding walked behind-file
@@ -47,7 +43,8 @@ first-fails : (w : Bytes) → IsLong w → turn_fault show_leaf [] (walk_from no
 first-fails w l = rw (l.spelled)
 
 -- a word that fails fails the level
-no-walk : (words : List Bytes) → level_fault show_leaf [] nothing_held words false [] ≡ [] → walk_fault show_leaf [] (walk_from nothing_held) words ≡ []
+no-walk : (words : List Bytes) → level_fault show_leaf [] nothing_held words false [] ≡ []
+    → walk_fault show_leaf [] (walk_from nothing_held) words ≡ []
 no-walk words e = (both-none (walk_fault show_leaf [] (walk_from nothing_held) words) _ e).0
 
 -- the words are a file's name alone

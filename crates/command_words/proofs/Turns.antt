@@ -1,13 +1,12 @@
 -- What the parser makes of one word behind `run`.
-use Rattle.std.proofs.Common.{◌≡◌, ℕ, Bool, true, false, List, [], ◌∷◌, ◌++◌, Option, Some, None, ap, sym, ◌∙◌, subst, refl, ◌⊎◌, inl, inr}
-use Rattle.std.specs.Prelude.{◌&&◌, codes, cond, not}
+use Rattle.std.proofs.Common.{◌≡◌, ℕ, Bool, true, false, List, [], ◌∷◌, ◌++◌, Option, Some, None, ap, sym, ◌∙◌, refl, ◌⊎◌, inl, inr}
+use Rattle.std.specs.Prelude.{◌&&◌, codes, cond}
 use Rattle.std.specs.Str.{bytes_eq}
 use Rattle.fcp_model.specs.Spelling.{Bytes}
 use Rattle.clap.specs.declared.error.kind.ErrorKind.TheVariants.{ArgumentConflict, InvalidValue, UnknownArgument}
 use Rattle.clap.specs.Kinds.{Kinds, or_else}
 use Rattle.clap.specs.Faults.{long_fault, settle_fault, turn_fault, use_fault, walk_fault, word_fault}
-use Rattle.clap.specs.Lexer.{long_of, short_of}
-use Rattle.clap.specs.Takes.{step_passes}
+use Rattle.clap.specs.Lexer.{long_of}
 use Rattle.clap.specs.Walk.{Held, Row, Rule, Walk, Waiting, arg_by_long, has_row, idle, is_pending, option, settled_rows, subcommand_met, used, walked}
 use Rattle.command_words.specs.declared.run_option.RunOption.{RunOption}
 use Rattle.command_words.specs.declared.run_option.RunOption.TheVariants.{Commits, Moves, Cells}

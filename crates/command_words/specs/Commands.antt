@@ -1,5 +1,5 @@
 -- The commands as the parser of command lines is told them. Only private clauses cite these.
-use Rattle.std.specs.Prelude.{ℕ, Bool, true, false, codes, Some}
+use Rattle.std.specs.Prelude.{ℕ, true, codes, Some}
 use Rattle.fcp_model.specs.Spelling.{Bytes}
 use Rattle.clap.specs.Words.{App, Rule, Shape, new_app, new_rule, with_rule, with_subcommand}
 use Rattle.command_words.specs.declared.run_option.RunOption.{RunOption}

@@ -29,7 +29,9 @@ pub fn order_in(alloc: Global, matches: &ArgMatches<'_>) -> Result<Order, WordFa
 fn run_in(alloc: Global, matches: &ArgMatches<'_>) -> Result<Order, WordFault>
     ensures { spec.Answers (spec.run_in (rows_of (found_of matches.now))) result }
 {
-    match (word(matches, "file"), word(matches, "goal"), limits_in(matches)) {
+    let file = word(matches, "file");
+    let goal = word(matches, "goal");
+    match (file, goal, limits_in(matches)) {
         (Some(file), Some(goal), Some(limits)) => Ok(Order::Run {
             file: Text::make(alloc, file)?,
             goal: Text::make(alloc, goal)?,

@@ -1,6 +1,5 @@
-use Rattle.std.proofs.Common.{◌≡◌, rules, ap₂, ◌∙◌}
-use Rattle.clap.specs.Words.{app_of, with_rule}
-use Rattle.command_words.specs.Commands.{run}
+use Rattle.std.proofs.Common.{rules, ap₂, ◌∙◌}
+use Rattle.clap.specs.Words.{with_rule}
 use Rattle.command_words.proofs.command.run.Goals as goal
 
 pub returns-clause-shape : goal.returns-clause-shape
