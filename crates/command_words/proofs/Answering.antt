@@ -1,221 +1,200 @@
 -- What words are answered.
-use Rattle.std.proofs.Common.{get_or, ◌≡◌, ℕ, ◌+◌, ◌-◌, ◌<◌, ◌≤◌, Bool, true, false, List, [], ◌∷◌, ◌++◌, length, map, take, drop, Option, Some, None, ap, sym, ◌∙◌, subst, refl, arith, eq-eqb}
-use Rattle.std.specs.Prelude.{◌==◌, ◌&&◌, codes, IsTrue, IfOk, Result, Ok, Err}
-use Rattle.std.proofs.lemmas.List.Folds.{list_all-map}
+use Rattle.std.proofs.Common.{◌≡◌, true, false, List, [], ◌∷◌, ◌++◌, map, Some, None, ap, sym, ◌∙◌, subst, refl, ◌⊎◌, inl, inr}
+use Rattle.std.specs.Prelude.{◌&&◌, codes, IfOk, IsTrue, Result, Ok, Err}
 use Rattle.std.specs.List.{list_all}
-use Rattle.std.proofs.lemmas.List.{drop-map, length-drop, take_all}
+use Rattle.std.specs.Str.{bytes_eq}
+use Rattle.std.proofs.lemmas.List.Folds.{list_all-map}
 use Rattle.fcp_model.specs.declared.run.Limits.{Limits}
 use Rattle.fcp_model.specs.Spelling.{Bytes}
-use Rattle.command_words.specs.declared.given.Given.{Given}
-use Rattle.command_words.specs.declared.given.Numbers.{Numbers}
-use Rattle.command_words.specs.declared.given.Plain.{Plain}
-use Rattle.command_words.specs.declared.given.Plain.TheVariants as plain
+use Rattle.clap.specs.declared.parser.matches.ArgMatches.{ArgMatches}
+use Rattle.clap.specs.declared.error.kind.ErrorKind.TheVariants.{InvalidSubcommand, UnknownArgument}
+use Rattle.clap.specs.Simple.{subcommand_of}
+use Rattle.clap.specs.Faults.{fault_of, turn_fault, walk_fault}
+use Rattle.clap.specs.Walk.{nothing_held, walk_from}
+use Rattle.clap.specs.Words.{subcommand_rows_of}
 use Rattle.command_words.specs.declared.order.Order.{Order}
 use Rattle.command_words.specs.declared.order.Order.TheVariants.{Run, Show}
 use Rattle.command_words.specs.declared.order.WordFault.{WordFault}
 use Rattle.command_words.specs.declared.order.WordFault.TheVariants.{Usage, NoMemory}
-use Rattle.command_words.specs.Givens.{nothing, order_of, Answers, Ends}
+use Rattle.command_words.specs.Commands.{logix}
 use Rattle.command_words.specs.Laws.{WordsHaveOneReading}
-use Rattle.command_words.specs.Parts.{behind_part, TakesPart, IsRunBehind, IsOrderBehind, ReadsBy, IsOrderOf}
-use Rattle.command_words.specs.Readings.{is_proper, is_plain, option_word, Part, positional, apart, joined, words_of, positionals, AreRunParts, IsRun, IsShow, IsReading, HasNoReading, ReadsWords, has_words}
-use Rattle.command_words.proofs.Spellings.{two-parts, two-whole}
-use Rattle.command_words.proofs.Completions.{given, Rest, Goes, goes, Comes, comes, Pair, rest-ends, ends-rest}
+use Rattle.command_words.specs.Orders.{Answers, Parses, is_allowed, is_long_or_plain, order_in}
+use Rattle.command_words.specs.Readings.{is_proper, is_plain, option_word, Part, positional, apart, joined, words_of, positionals, AreRunParts, IsReading, HasNoReading, ReadsWords, has_words}
+use Rattle.command_words.proofs.Forms.{IsLong, is_word, plain-or-long, plain-word, true-or-false, two-parts, two-whole}
+use Rattle.command_words.proofs.Levels.{names, run-fault, run-rows, show-fault, show-rows, top}
+use Rattle.command_words.proofs.PassingParts.{plain-stands}
+use Rattle.command_words.proofs.RunWords.{run-read, run-taken}
+use Rattle.command_words.proofs.ShowWords.{show-found, show-passes, show-read}
+use Rattle.command_words.proofs.Turns.{both-none}
 
--- ---- the words behind `run`
+-- ---- words that may stand in a call
 
-parts-rest : (parts : List Part) (words : List Bytes) (file goal : Bytes) (limits : Limits) → AreRunParts words parts file goal limits
-    → Rest parts nothing words file goal limits
-parts-rest parts words file goal limits a = record {
-  spelled = a.spelled;
-  plain = a.plain;
-  two = a.two;
-  commits = a.commits;
-  moves = a.moves;
-  cells = a.cells;
-}
+all-allowed : (words : List Bytes) → list_all is_allowed words ≡ true
+    → (list_all is_proper words ≡ true) × (list_all is_long_or_plain words ≡ true)
+all-allowed [] e = (refl, refl)
+all-allowed (w ∷ ws) e =
+    let a = two-parts (is_allowed w) (list_all is_allowed ws) e in
+    let b = two-parts (is_proper w) (is_long_or_plain w) a.0 in
+    let rest = all-allowed ws a.1 in
+    (two-whole (is_proper w) (list_all is_proper ws) b.0 rest.0, two-whole (is_long_or_plain w) (list_all is_long_or_plain ws) b.1 rest.1)
 
-rest-parts : (parts : List Part) (words : List Bytes) (file goal : Bytes) (limits : Limits) → Rest parts nothing words file goal limits
+allowed-all : (words : List Bytes) → list_all is_proper words ≡ true → list_all is_long_or_plain words ≡ true
+    → list_all is_allowed words ≡ true
+allowed-all [] p f = refl
+allowed-all (w ∷ ws) p f =
+    let a = two-parts (is_proper w) (list_all is_proper ws) p in
+    let b = two-parts (is_long_or_plain w) (list_all is_long_or_plain ws) f in
+    two-whole (is_allowed w) (list_all is_allowed ws) (two-whole (is_proper w) (is_long_or_plain w) a.0 b.0) (allowed-all ws a.1 b.1)
+
+-- ---- other first words
+
+-- a word that is no command fails
+no-command : (w : Bytes) → bytes_eq (codes "run") w ≡ false → bytes_eq (codes "show") w ≡ false → (is_plain w ≡ true) ⊎ IsLong w
+    → turn_fault top names (walk_from nothing_held) w ≡ []
+    → ⊥
+no-command w r s (inl plain) e =
+    let p = plain-word w plain in
+    let bad : UnknownArgument ∷ InvalidSubcommand ∷ [] ≡ [] = sym (rw (r, s, p.no_end, p.no_long, p.no_short)) ∙ e in
+    cc
+no-command w r s (inr l) e =
+    let bad : UnknownArgument ∷ [] ≡ [] = sym (rw (l.spelled)) ∙ e in
+    cc
+
+other-fails : (w : Bytes) (words : List Bytes) → bytes_eq (codes "run") w ≡ false → bytes_eq (codes "show") w ≡ false
+    → is_long_or_plain w ≡ true
+    → fault_of logix (w ∷ words) ≡ []
+    → ⊥
+unfolding walk_fault
+other-fails w words r s formed e =
+    let start = both-none (walk_fault top names (walk_from nothing_held) (w ∷ words)) _ e in
+    no-command w r s (plain-or-long w formed) (both-none (turn_fault top names (walk_from nothing_held) w) _ start.0).0
+
+-- ---- what the parser takes and finds is what words ask for
+
+-- what they ask for, and that they may stand in a call
+record IsTaken (words : List Bytes) (o : Order) : Type 0 where
+  pub allowed : list_all is_allowed words ≡ true
+  pub passes : fault_of logix words ≡ []
+  pub finds : order_in (subcommand_of logix words) ≡ Some o
+
+run-reading : (words : List Bytes) (o : Order) → list_all is_allowed (codes "run" ∷ words) ≡ true
+    → fault_of logix (codes "run" ∷ words) ≡ []
+    → order_in (subcommand_of logix (codes "run" ∷ words)) ≡ Some o
+    → IsReading (codes "run" ∷ words) o
+run-reading words o allowed passes finds =
+    let a = all-allowed (codes "run" ∷ words) allowed in
+    let f = two-parts (is_long_or_plain (codes "run")) (list_all is_long_or_plain words) a.1 in
+    let r = run-read words o f.1 (sym (run-fault words) ∙ passes) (sym (ap order_in (run-rows words)) ∙ finds) in
+    subst (IsReading (codes "run" ∷ words)) (sym r.is_order) (record {
+      asks = record {
+        behind = words;
+        command = refl;
+        proper = a.0;
+        parts = r.parts;
+        are_parts = r.are_parts;
+      };
+    })
+
+show-reading : (words : List Bytes) (o : Order) → list_all is_allowed (codes "show" ∷ words) ≡ true
+    → fault_of logix (codes "show" ∷ words) ≡ []
+    → order_in (subcommand_of logix (codes "show" ∷ words)) ≡ Some o
+    → IsReading (codes "show" ∷ words) o
+show-reading words o allowed passes finds =
+    let a = all-allowed (codes "show" ∷ words) allowed in
+    let f = two-parts (is_long_or_plain (codes "show")) (list_all is_long_or_plain words) a.1 in
+    let r = show-read words o f.1 (sym (show-fault words) ∙ passes) (sym (ap order_in (show-rows words)) ∙ finds) in
+    subst (IsReading (codes "show" ∷ words)) (sym r.is_order) (record {
+      asks = record {
+        command = ap (λ x. codes "show" ∷ x) r.spelled;
+        proper = a.0;
+        plain = r.plain;
+      };
+    })
+
+first-reading : (w : Bytes) (words : List Bytes) (o : Order) → (bytes_eq (codes "run") w ≡ true) ⊎ (bytes_eq (codes "run") w ≡ false)
+    → (bytes_eq (codes "show") w ≡ true) ⊎ (bytes_eq (codes "show") w ≡ false)
+    → list_all is_allowed (w ∷ words) ≡ true
+    → fault_of logix (w ∷ words) ≡ []
+    → order_in (subcommand_of logix (w ∷ words)) ≡ Some o
+    → IsReading (w ∷ words) o
+first-reading w words o (inl r) s =
+    subst (λ x. list_all is_allowed (x ∷ words) ≡ true → fault_of logix (x ∷ words) ≡ []
+    → order_in (subcommand_of logix (x ∷ words)) ≡ Some o
+    → IsReading (x ∷ words) o) (is_word (codes "run") w r) (run-reading words o)
+first-reading w words o (inr r) (inl s) =
+    subst (λ x. list_all is_allowed (x ∷ words) ≡ true → fault_of logix (x ∷ words) ≡ []
+    → order_in (subcommand_of logix (x ∷ words)) ≡ Some o
+    → IsReading (x ∷ words) o) (is_word (codes "show") w s) (show-reading words o)
+first-reading w words o (inr r) (inr s) = λ allowed passes finds.
+    let f = two-parts (is_long_or_plain w) (list_all is_long_or_plain words) (all-allowed (w ∷ words) allowed).1 in
+    absurd (other-fails w words r s f.0 passes)
+
+taken-reading : (words : List Bytes) (o : Order) → list_all is_allowed words ≡ true → fault_of logix words ≡ []
+    → order_in (subcommand_of logix words) ≡ Some o
+    → IsReading words o
+taken-reading [] o allowed passes finds = let bad : None ≡ Some o = finds in cc
+taken-reading (w ∷ words) o allowed passes finds =
+    first-reading w words o (true-or-false (bytes_eq (codes "run") w)) (true-or-false (bytes_eq (codes "show") w)) allowed passes finds
+
+-- ---- and what words ask for is what the parser takes and finds
+
+run-is-taken : (words : List Bytes) (file goal : Bytes) (limits : Limits) (parts : List Part)
+    → list_all is_proper (codes "run" ∷ words) ≡ true
     → AreRunParts words parts file goal limits
-rest-parts parts words file goal limits a = record {
-  spelled = a.spelled;
-  plain = a.plain;
-  two = a.two;
-  commits = a.commits;
-  moves = a.moves;
-  cells = a.cells;
+    → IsTaken (codes "run" ∷ words) (Run file goal limits)
+run-is-taken words file goal limits parts proper a =
+    let t = run-taken words parts file goal limits a in
+    record {
+      allowed = allowed-all (codes "run" ∷ words) proper
+          (two-whole (is_long_or_plain (codes "run")) (list_all is_long_or_plain words) refl t.formed);
+      passes = run-fault words ∙ t.passes;
+      finds = ap order_in (run-rows words) ∙ t.finds;
+    }
+
+show-is-taken : (file : Bytes) → list_all is_proper (codes "show" ∷ file ∷ []) ≡ true → is_plain file ≡ true
+    → IsTaken (codes "show" ∷ file ∷ []) (Show file)
+show-is-taken file proper plain = record {
+  allowed = allowed-all (codes "show" ∷ file ∷ []) proper (two-whole (is_long_or_plain file) true (plain-stands file plain) refl);
+  passes = show-fault (file ∷ []) ∙ show-passes file plain;
+  finds = ap order_in (show-rows (file ∷ [])) ∙ show-found file plain;
 }
 
--- the words before the rest were taken, and gave this
-pub record HasTaken (all rest : List Bytes) (g : Given) : Type 0 where
-  pub back : (ps : List Part) (file goal : Bytes) (limits : Limits) → Rest ps g rest file goal limits
-      → (qs : List Part) × Rest qs nothing all file goal limits
-  pub only : (qs : List Part) (file goal : Bytes) (limits : Limits) → Rest qs nothing all file goal limits
-      → (ps : List Part) × Rest ps g rest file goal limits
+reading-taken : (words : List Bytes) (o : Order) → IsReading words o → IsTaken words o
+reading-taken words (Run file goal limits) r =
+    subst (λ x. IsTaken x (Run file goal limits)) (sym r.asks.command)
+    (run-is-taken r.asks.behind file goal limits r.asks.parts
+    (subst (λ x. list_all is_proper x ≡ true) r.asks.command r.asks.proper) r.asks.are_parts)
+reading-taken words (Show file) r =
+    subst (λ x. IsTaken x (Show file)) (sym r.asks.command)
+    (show-is-taken file (subst (λ x. list_all is_proper x ≡ true) r.asks.command r.asks.proper) r.asks.plain)
 
-pub taken-none : (all : List Bytes) (g : Given) → g ≡ nothing → HasTaken all all g
-taken-none all g e = subst (HasTaken all all) (sym e) (record {
-  back = λ ps file goal limits h. (ps, h);
-  only = λ qs file goal limits h. (qs, h);
-})
-
-none-behind : (g : Given) (words : List Bytes) (next : Pair) → words ≡ [] → behind_part g words ≡ Some next → ⊥
-none-behind g words next e b = let bad : None ≡ Some next = sym (ap (behind_part g) e) ∙ b in cc
-
--- what follows, where a part was taken
-follows-as : (ps : List Part) (g : Given) (words : List Bytes) (next : Pair) (file goal : Bytes) (limits : Limits)
-    → behind_part g words ≡ Some next
-    → Rest ps g words file goal limits
-    → (qs : List Part) × Rest qs next.0 (drop next.1 words) file goal limits
-follows-as [] g words next file goal limits e h = absurd (none-behind g words next h.spelled e)
-follows-as (p ∷ ps) g words next file goal limits e h =
-    let k = goes ps g file goal limits p words h in
-    let both : Some (k.next, k.count) ≡ Some next = sym k.is_behind ∙ e in
-    let same : (k.next, k.count) ≡ next = cc in
-    (ps, subst (λ (q : Pair). Rest ps q.0 (drop q.1 words) file goal limits) same k.rest)
-
-pub taken-more : (all rest : List Bytes) (g : Given) (next : Pair) → HasTaken all rest g → behind_part g rest ≡ Some next
-    → HasTaken all (drop next.1 rest) next.0
-taken-more all rest g next h e = record {
-  back = λ ps file goal limits k.
-      let c = comes g rest next e ps file goal limits k in
-      h.back (c.0 ∷ ps) file goal limits c.1;
-  only = λ qs file goal limits k.
-      let o = h.only qs file goal limits k in
-      follows-as o.0 g rest next file goal limits e o.1;
-}
-
-not-taken : (ps : List Part) (g : Given) (w : Bytes) (ws : List Bytes) (file goal : Bytes) (limits : Limits)
-    → behind_part g (w ∷ ws) ≡ None
-    → Rest ps g (w ∷ ws) file goal limits
-    → ⊥
-not-taken [] g w ws file goal limits e h = let bad : w ∷ ws ≡ [] = h.spelled in cc
-not-taken (p ∷ ps) g w ws file goal limits e h =
-    let k = goes ps g file goal limits p (w ∷ ws) h in
-    let bad : Some (k.next, k.count) ≡ None = sym k.is_behind ∙ e in
+pub one-reading : WordsHaveOneReading
+one-reading words o p r s =
+    let same : Some o ≡ Some p = sym (reading-taken words o r).finds ∙ (reading-taken words p s).finds in
     cc
 
-pub no-part : (all rest : List Bytes) (g : Given) → HasTaken all rest g → (rest ≡ [] → ⊥) → behind_part g rest ≡ None
-    → (o : Order) → IsOrderBehind all o → ⊥
-no-part all [] g h some e o b = some refl
-no-part all (w ∷ ws) g h some e (Show file) b = b
-no-part all (w ∷ ws) g h some e (Run file goal limits) b =
-    let k = h.only b.parts file goal limits (parts-rest b.parts all file goal limits b.are_parts) in
-    not-taken k.0 g w ws file goal limits e k.1
+-- ---- answers
 
--- an error of a part is one of the words
-pub part-fails : (all rest : List Bytes) (g : Given) (e : WordFault) → HasTaken all rest g → (rest ≡ [] → ⊥)
-    → TakesPart g rest (Err e)
-    → ReadsBy (IsOrderBehind all) (Err e)
-part-fails all rest g Usage h some t = no-part all rest g h some t
-part-fails all rest g NoMemory h some t = tt
+pub not-allowed : (words : List Bytes) → list_all is_allowed words ≡ false → HasNoReading words
+not-allowed words e o r = let bad : true ≡ false = sym (reading-taken words o r).allowed ∙ e in cc
 
-no-show-in : (p : Plain) (n : Numbers) (file : Bytes) → order_of (given p n) ≡ Some (Show file) → ⊥
-no-show-in plain.Nothing n file e = cc
-no-show-in (plain.File f) n file e = cc
-no-show-in (plain.FileAndGoal f k) n file e = cc
+pub mapped-allowed : {X : Type 0} (f : X → Bytes) (xs : List X) → list_all (λ x. is_allowed (f x)) xs ≡ list_all is_allowed (map f xs)
+mapped-allowed f xs = sym (list_all-map is_allowed f xs)
 
-no-show : (g : Given) (file : Bytes) → order_of g ≡ Some (Show file) → ⊥
-no-show g file e = no-show-in g.plain g.numbers file e
+-- words that the parser refuses ask for nothing
+pub refused : (words : List Bytes) (e : WordFault) → Parses words (Err e) → ReadsWords words (Err e)
+refused words Usage h = λ o r. h (reading-taken words o r).passes
+refused words NoMemory h = tt
 
-run-ends : (all : List Bytes) (g : Given) (file goal : Bytes) (limits : Limits) → HasTaken all [] g
-    → order_of g ≡ Some (Run file goal limits)
-    → IsOrderBehind all (Run file goal limits)
-run-ends all g file goal limits h e =
-    let k = h.back [] file goal limits (ends-rest g file goal limits e) in
-    record { parts = k.0; are_parts = rest-parts k.0 all file goal limits k.1 }
-
-ends-order : (all : List Bytes) (g : Given) (o : Order) → HasTaken all [] g → order_of g ≡ Some o → IsOrderBehind all o
-ends-order all g (Run file goal limits) h e = run-ends all g file goal limits h e
-ends-order all g (Show file) h e = absurd (no-show g file e)
-
-ends-none : (all : List Bytes) (g : Given) → HasTaken all [] g → order_of g ≡ None → (o : Order) → IsOrderBehind all o → ⊥
-ends-none all g h e (Show file) b = b
-ends-none all g h e (Run file goal limits) b =
-    let k = h.only b.parts file goal limits (parts-rest b.parts all file goal limits b.are_parts) in
-    let bad : Some (Run file goal limits) ≡ None = sym (rest-ends k.0 g file goal limits k.1) ∙ e in
+-- and of those that it takes the order is the one that it finds
+pub answered : (words : List Bytes) (m : ArgMatches) (r : Result Order WordFault) → list_all is_allowed words ≡ true → Parses words (Ok m)
+    → Answers (order_in (subcommand_rows_of m)) r
+    → ReadsWords words r
+answered words m (Ok o) allowed p a = taken-reading words o allowed p.0 (sym (ap order_in p.1) ∙ a)
+answered words m (Err Usage) allowed p a = λ o r.
+    let bad : Some o ≡ None = sym (reading-taken words o r).finds ∙ sym (ap order_in p.1) ∙ a in
     cc
-
-ended-as : (all : List Bytes) (g : Given) (r : Result Order WordFault) → HasTaken all [] g → Ends g r → ReadsBy (IsOrderBehind all) r
-ended-as all g (Ok o) h e = ends-order all g o h e
-ended-as all g (Err Usage) h e = ends-none all g h e
-ended-as all g (Err NoMemory) h e = tt
-
-pub words-end : (all rest : List Bytes) (g : Given) (r : Result Order WordFault) → HasTaken all rest g → rest ≡ [] → Ends g r
-    → ReadsBy (IsOrderBehind all) r
-words-end all rest g r h e ends = ended-as all g r (subst (λ x. HasTaken all x g) e h) ends
-
--- ---- all words
-
-pub improper : (words : List Bytes) → list_all is_proper words ≡ false → HasNoReading words
-improper words e (Run file goal limits) r = let bad : true ≡ false = sym r.asks.proper ∙ e in cc
-improper words e (Show file) r = let bad : true ≡ false = sym r.asks.proper ∙ e in cc
-
-no-words : HasNoReading []
-no-words (Run file goal limits) r = let bad : [] ≡ codes "run" ∷ r.asks.behind = r.asks.command in cc
-no-words (Show file) r = let bad : [] ≡ codes "show" ∷ file ∷ [] = r.asks.command in cc
-
-order-reading : (command : Bytes) (others : List Bytes) → list_all is_proper (command ∷ others) ≡ true → (o : Order)
-    → IsOrderOf command others o
-    → IsReading (command ∷ others) o
-order-reading command others proper (Run file goal limits) h = record {
-  asks = record {
-    behind = others;
-    command = ap (λ x. x ∷ others) h.0;
-    proper = proper;
-    parts = h.1.parts;
-    are_parts = h.1.are_parts;
-  };
-}
-order-reading command others proper (Show file) h = record {
-  asks = record {
-    command = ap (λ x. x ∷ others) h.0 ∙ ap (λ x. codes "show" ∷ x) h.1;
-    proper = proper;
-    plain = h.2;
-  };
-}
-
-reading-order : (command : Bytes) (others : List Bytes) (o : Order) → IsReading (command ∷ others) o → IsOrderOf command others o
-reading-order command others (Run file goal limits) r =
-    let e : command ∷ others ≡ codes "run" ∷ r.asks.behind = r.asks.command in
-    let a : command ≡ codes "run" = cc in
-    let b : r.asks.behind ≡ others = cc in
-    (a, record { parts = r.asks.parts; are_parts = subst (λ x. AreRunParts x r.asks.parts file goal limits) b r.asks.are_parts })
-reading-order command others (Show file) r =
-    let e : command ∷ others ≡ codes "show" ∷ file ∷ [] = r.asks.command in
-    (cc, cc, r.asks.plain)
-
--- what is read behind a command is read of all words
-pub read-as : (command : Bytes) (others : List Bytes) (r : Result Order WordFault) → list_all is_proper (command ∷ others) ≡ true
-    → ReadsBy (IsOrderOf command others) r
-    → ReadsWords (command ∷ others) r
-read-as command others (Ok o) proper h = order-reading command others proper o h
-read-as command others (Err Usage) proper h = λ o r. h o (reading-order command others o r)
-read-as command others (Err NoMemory) proper h = tt
-
-pub read-none : ReadsWords [] (Err Usage)
-read-none = no-words
-
--- ---- by commands
-
-run-none : (command : Bytes) (others : List Bytes) → command ≡ codes "run" → ((o : Order) → IsOrderBehind others o → ⊥) → (o : Order)
-    → IsOrderOf command others o
-    → ⊥
-run-none command others e h (Run file goal limits) k = h (Run file goal limits) k.1
-run-none command others e h (Show file) k = let bad : codes "run" ≡ codes "show" = sym e ∙ k.0 in cc
-
-pub run-as : (command : Bytes) (others : List Bytes) (r : Result Order WordFault) → command ≡ codes "run"
-    → ReadsBy (IsOrderBehind others) r
-    → ReadsBy (IsOrderOf command others) r
-run-as command others (Ok (Run file goal limits)) e h = (e, h)
-run-as command others (Ok (Show file)) e h = absurd h
-run-as command others (Err Usage) e h = run-none command others e h
-run-as command others (Err NoMemory) e h = tt
-
-pub other-command : (command : Bytes) (others : List Bytes) → (command ≡ codes "run" → ⊥) → (command ≡ codes "show" → ⊥) → (o : Order)
-    → IsOrderOf command others o
-    → ⊥
-other-command command others a b (Run file goal limits) h = a h.0
-other-command command others a b (Show file) h = b h.0
+answered words m (Err NoMemory) allowed p a = tt
 
 -- ---- the words of what was read
 
@@ -233,7 +212,7 @@ positionals-proper (joined o v ∷ ps) e =
     let k = two-parts (is_proper (option_word o ++ codes "=" ++ v)) (list_all is_proper (words_of ps)) e in
     positionals-proper ps k.1
 
-pub proper-words : (words : List Bytes) (o : Order) → IsReading words o → has_words o ≡ true
+proper-words : (words : List Bytes) (o : Order) → IsReading words o → has_words o ≡ true
 proper-words words (Run file goal limits) r =
     let all : list_all is_proper (codes "run" ∷ r.asks.behind) ≡ true =
     subst (λ x. list_all is_proper x ≡ true) r.asks.command r.asks.proper in
@@ -251,75 +230,6 @@ proper-words words (Show file) r =
     let f = two-parts (is_proper file) true k.1 in
     f.0
 
--- ---- one reading
-
-one-run : (ps qs : List Part) (g : Given) (words : List Bytes) (file file' goal goal' : Bytes) (limits limits' : Limits)
-    → Rest ps g words file goal limits
-    → Rest qs g words file' goal' limits'
-    → Run file goal limits ≡ Run file' goal' limits'
-one-run [] qs g words file file' goal goal' limits limits' h k =
-    let a = rest-ends [] g file goal limits (subst (λ x. Rest [] g x file goal limits) h.spelled h) in
-    let b = rest-ends qs g file' goal' limits' (subst (λ x. Rest qs g x file' goal' limits') h.spelled k) in
-    let c : Some (Run file goal limits) ≡ Some (Run file' goal' limits') = sym a ∙ b in
-    cc
-one-run (p ∷ ps) qs g words file file' goal goal' limits limits' h k =
-    let a = goes ps g file goal limits p words h in
-    let b = follows-as qs g words (a.next, a.count) file' goal' limits' a.is_behind k in
-    one-run ps b.0 a.next (drop a.count words) file file' goal goal' limits limits' a.rest b.1
-
-pub one-reading : WordsHaveOneReading
-one-reading words (Run file goal limits) (Run file' goal' limits') r s =
-    let e : codes "run" ∷ r.asks.behind ≡ codes "run" ∷ s.asks.behind = sym r.asks.command ∙ s.asks.command in
-    let b : s.asks.behind ≡ r.asks.behind = cc in
-    one-run r.asks.parts s.asks.parts nothing r.asks.behind file file' goal goal' limits limits'
-    (parts-rest r.asks.parts r.asks.behind file goal limits r.asks.are_parts)
-    (parts-rest s.asks.parts r.asks.behind file' goal' limits'
-    (subst (λ x. AreRunParts x s.asks.parts file' goal' limits') b s.asks.are_parts))
-one-reading words (Show file) (Show file') r s =
-    let e : codes "show" ∷ file ∷ [] ≡ codes "show" ∷ file' ∷ [] = sym r.asks.command ∙ s.asks.command in
-    let f : file ≡ file' = cc in
-    ap Show f
-one-reading words (Run file goal limits) (Show file') r s =
-    let e : codes "run" ∷ r.asks.behind ≡ codes "show" ∷ file' ∷ [] = sym r.asks.command ∙ s.asks.command in
-    absurd cc
-one-reading words (Show file) (Run file' goal' limits') r s =
-    let e : codes "show" ∷ file ∷ [] ≡ codes "run" ∷ s.asks.behind = sym r.asks.command ∙ s.asks.command in
-    absurd cc
-
--- ---- slices of words
-
-pub mapped-drop : {X : Type 0} (f : X → Bytes) (n : ℕ) (xs : List X) → map f (take (length xs - n) (drop n xs)) ≡ drop n (map f xs)
-mapped-drop f n xs = ap (map f) (take_all (length xs - n) (drop n xs) (omega (arith, length-drop n xs))) ∙ sym (drop-map f n xs)
-
--- a first word, and the others
-pub first-others : {X : Type 0} (f : X → Bytes) (xs : List X) (x : X) → 1 ≤ length xs → x ≡ get_or xs 0 x
-    → map f xs ≡ f x ∷ map f (take (length xs - 1) (drop 1 xs))
-first-others f [] x i e = absurd (omega (arith, i))
-first-others f (y ∷ ys) x i e =
-    ap (λ z. f z ∷ map f ys) (sym e) ∙ ap (λ zs. f x ∷ map f zs) (sym (take_all (length (y ∷ ys) - 1) ys (omega arith)))
-
-pub some-mapped-words : {X : Type 0} (f : X → Bytes) (xs : List X) → (length xs ≡ 0 → ⊥) → map f xs ≡ [] → ⊥
-some-mapped-words f [] some e = some refl
-some-mapped-words f (x ∷ xs) some e = let bad : f x ∷ map f xs ≡ [] = e in cc
-
-pub no-mapped-words : {X : Type 0} (f : X → Bytes) (xs : List X) → length xs ≡ 0 → map f xs ≡ []
-no-mapped-words f [] e = refl
-no-mapped-words f (x ∷ xs) e = absurd (omega (arith, e))
-
--- what `read_words` answers behind the first word
-pub words-read : (words : List Bytes) (command : Bytes) (others : List Bytes) (r : Result Order WordFault) → words ≡ command ∷ others
-    → list_all is_proper words ≡ true
-    → ReadsBy (IsOrderOf command others) r
-    → ReadsWords words r
-words-read words command others r e proper h =
-    subst (λ x. ReadsWords x r) (sym e) (read-as command others r (subst (λ x. list_all is_proper x ≡ true) e proper) h)
-
 pub read-proper : (words : List Bytes) (r : Result Order WordFault) → ReadsWords words r → IfOk r (λ o. IsTrue (has_words o))
 read-proper words (Ok o) h = proper-words words o h
 read-proper words (Err e) h = tt
-
-pub mapped-proper : {X : Type 0} (f : X → Bytes) (xs : List X) → list_all (λ x. is_proper (f x)) xs ≡ list_all is_proper (map f xs)
-mapped-proper f xs = sym (list_all-map is_proper f xs)
-
-pub not-zero : (n : ℕ) → (n == 0) ≡ false → n ≡ 0 → ⊥
-not-zero n e z = let bad : true ≡ false = sym (eq-eqb n 0 z) ∙ e in cc

@@ -1,3 +1,10 @@
+pub mod Levels
+pub mod Forms
+pub mod Rows
+pub mod Turns
+pub mod Tallies
+pub mod PartWords
+pub mod PassingParts
+pub mod RunWords
+pub mod ShowWords
 pub mod Answering
-pub mod Completions
-pub mod Spellings

@@ -1,5 +1,4 @@
-pub mod Givens
-pub mod Kinds
+pub mod Commands
 pub mod Laws
-pub mod Parts
+pub mod Orders
 pub mod Readings

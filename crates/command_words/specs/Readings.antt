@@ -4,8 +4,8 @@ use Rattle.std.specs.List.{list_all}
 use Rattle.fcp_model.specs.declared.run.Limits.{Limits}
 use Rattle.fcp_model.specs.Spelling.{Bytes}
 use Rattle.word_numbers.specs.Numbers.{number_of}
-use Rattle.command_words.specs.declared.kind.RunOption.{RunOption}
-use Rattle.command_words.specs.declared.kind.RunOption.TheVariants.{Commits, Moves, Cells}
+use Rattle.command_words.specs.declared.run_option.RunOption.{RunOption}
+use Rattle.command_words.specs.declared.run_option.RunOption.TheVariants.{Commits, Moves, Cells}
 use Rattle.command_words.specs.declared.order.Order.{Order}
 use Rattle.command_words.specs.declared.order.Order.TheVariants.{Run, Show}
 use Rattle.command_words.specs.declared.order.WordFault.{WordFault}

@@ -1,24 +1,22 @@
 //! The words of a call, and what they ask for.
 #![tactic(auto)]
 
-ghost use Rattle.std.specs.Prelude.{◌≡◌, [], ◌∷◌, IfOk, IsTrue, map};
+ghost use Rattle.std.specs.Prelude.{◌≡◌, IfOk, IsTrue, map};
 ghost use Rattle.std.specs.List.{list_all};
 ghost use Rattle.std.specs.String.{string_bytes};
 ghost use Rattle.command_words.specs.Laws.{WordsHaveOneReading};
-ghost use Rattle.command_words.specs.Parts.{ReadsBehind, ReadsRun, ReadsShow};
+ghost use Rattle.command_words.specs.Orders as spec;
 ghost use Rattle.command_words.specs.Readings.{is_proper, has_words, ReadsWords};
 
-mod given;
-mod kind;
+mod command;
+mod found;
 mod order;
-mod part;
+mod run_option;
 
-use fcp_model::Text;
-use given::Given;
-pub use kind::RunOption;
-use kind::is_plain;
+use command::parse;
+use found::order_in;
 pub use order::{Order, WordFault};
-use part::take_part;
+pub use run_option::RunOption;
 use std::alloc::Global;
 
 /// The most bytes of a word.
@@ -30,33 +28,26 @@ pub fn read_words(alloc: Global, words: &[String]) -> Result<Order, WordFault>
     ensures reads { ReadsWords (map string_bytes words.now) result }
     ensures proper { IfOk result (λ o. IsTrue (has_words o)) }
 {
-    if !are_proper(words) {
+    if !are_allowed(words) {
         return Err(WordFault::Usage);
     }
-    match words {
-        [command, others @ ..] => read_command(alloc, command.as_str(), others),
-        [] => Err(WordFault::Usage),
-    }
+    let matches = parse(alloc, words)?;
+    order_in(alloc, &matches)
 }
 
-/// What the words behind a command ask for.
-fn read_command(alloc: Global, command: &str, others: &[String]) -> Result<Order, WordFault>
-    ensures { ReadsBehind command.now (map string_bytes others.now) result }
+/// Whether each word may stand in a call.
+fn are_allowed(words: &[String]) -> bool
+    ensures { result ≡ list_all (λ word. spec.is_allowed (string_bytes word)) words.now }
 {
-    if command == "run" {
-        read_run(alloc, others)
-    } else if command == "show" {
-        read_show(alloc, others)
-    } else {
-        Err(WordFault::Usage)
-    }
+    words.iter().all(|word| is_allowed(word.as_str()))
 }
 
-/// Whether each word has 1 to 65,536 bytes.
-fn are_proper(words: &[String]) -> bool
-    ensures { result ≡ list_all (λ word. is_proper (string_bytes word)) words.now }
+/// Whether a word may stand in a call: the parser would take an empty one, a longer one, `--` and `-`, and read options of one
+/// letter.
+fn is_allowed(word: &str) -> bool
+    ensures { result ≡ spec.is_allowed word.now }
 {
-    words.iter().all(|word| is_proper(word.as_str()))
+    is_proper(word) && is_long_or_plain(word.as_bytes())
 }
 
 /// Whether a word has 1 to 65,536 bytes.
@@ -66,40 +57,14 @@ fn is_proper(word: &str) -> bool
     1 <= word.len() && word.len() <= MOST_WORD_BYTES
 }
 
-/// What the words behind `run` ask for.
-fn read_run(alloc: Global, words: &[String]) -> Result<Order, WordFault>
-    ensures { ReadsRun (map string_bytes words.now) result }
+/// Whether no `-` stands in front, or two do with something behind them.
+fn is_long_or_plain(word: &[u8]) -> bool
+    ensures { result ≡ spec.is_long_or_plain word.now }
 {
-    let mut given = Given::nothing();
-    let mut rest = words;
-    while !rest.is_empty() {
-        let (next, count) = take_part(alloc, given, rest)?;
-        given = next;
-        rest = &rest[count..];
-    }
-    given.into_order()
-}
-
-/// What the words behind `show` ask for.
-fn read_show(alloc: Global, others: &[String]) -> Result<Order, WordFault>
-    ensures { ReadsShow (map string_bytes others.now) result }
-{
-    match others {
-        [file] => show(alloc, file.as_str()),
-        _ => Err(WordFault::Usage),
-    }
-}
-
-/// The order to show a file, if no `-` stands in front of its name.
-fn show(alloc: Global, file: &str) -> Result<Order, WordFault>
-    ensures { ReadsShow (file.now ∷ []) result }
-{
-    if is_plain(file.as_bytes()) {
-        Ok(Order::Show {
-            file: Text::make(alloc, file)?,
-        })
-    } else {
-        Err(WordFault::Usage)
+    match word {
+        [b'-', b'-', _, ..] => true,
+        [b'-', ..] => false,
+        _ => true,
     }
 }
 

@@ -1,30 +1,28 @@
-use Rattle.std.proofs.Common.{◌-◌, ◌∷◌, map, take, drop, length, ap, sym, ◌∙◌}
+use Rattle.std.proofs.Common.{map, sym, ◌∙◌}
 use Rattle.std.specs.String.{string_bytes}
-use Rattle.command_words.proofs.Answering.{improper, mapped-proper, words-read, read-proper, first-others}
+use Rattle.std.proofs.lemmas.Result.{err_from_is_err_and}
+use Rattle.command_words.proofs.Answering.{answered, mapped-allowed, not-allowed, read-proper, refused}
 use Rattle.command_words.proofs.read_words.Goals as goal
 
-pub returns-then-not-are_proper-clause-reads : goal.returns-then-not-are_proper-clause-reads
-returns-then-not-are_proper-clause-reads c =
-    improper (map string_bytes c.args.words.now)
-    (sym (mapped-proper string_bytes c.args.words.now) ∙ sym c.are_proper.ensures ∙ c.if-not-are_proper.true)
+pub returns-then-not-are_allowed-clause-reads : goal.returns-then-not-are_allowed-clause-reads
+returns-then-not-are_allowed-clause-reads c =
+    not-allowed (map string_bytes c.args.words.now)
+    (sym (mapped-allowed string_bytes c.args.words.now) ∙ sym c.are_allowed.ensures ∙ c.if-not-are_allowed.true)
 
-pub returns-in-len1-up-clause-reads : goal.returns-in-len1-up-clause-reads
-returns-in-len1-up-clause-reads c =
-    let words = c.args.words.now in
-    let others = map string_bytes (take (length words - 1) (drop 1 words)) in
-    words-read (map string_bytes words) c.as_str.result.now others c.read_command.result
-    (first-others string_bytes words c.command-item.result c.in-len1-up.len_at_least c.command-item.is
-    ∙ ap (λ x. x ∷ others) (sym c.as_str.ensures.value))
-    (sym (mapped-proper string_bytes words) ∙ sym c.are_proper.ensures ∙ c.if-not-are_proper.false)
-    c.read_command.ensures
+pub returns-in_err-matches-clause-reads : goal.returns-in_err-matches-clause-reads
+returns-in_err-matches-clause-reads c =
+    let p = err_from_is_err_and c.from_residual.result c.from_residual.ensures.1 in
+    rw (p.1, p.2) (refused (map string_bytes c.args.words.now) c.in_err-matches.field-0.0 c.in_err-matches.ensures)
 
-pub returns-in-len1-up-clause-proper : goal.returns-in-len1-up-clause-proper
-returns-in-len1-up-clause-proper c =
-    let words = c.args.words.now in
-    let others = map string_bytes (take (length words - 1) (drop 1 words)) in
-    read-proper (map string_bytes words) c.read_command.result
-    (words-read (map string_bytes words) c.as_str.result.now others c.read_command.result
-    (first-others string_bytes words c.command-item.result c.in-len1-up.len_at_least c.command-item.is
-    ∙ ap (λ x. x ∷ others) (sym c.as_str.ensures.value))
-    (sym (mapped-proper string_bytes words) ∙ sym c.are_proper.ensures ∙ c.if-not-are_proper.false)
-    c.read_command.ensures)
+pub returns-clause-reads : goal.returns-clause-reads
+returns-clause-reads c =
+    answered (map string_bytes c.args.words.now) c.in_ok-matches.matches c.order_in.result
+    (sym (mapped-allowed string_bytes c.args.words.now) ∙ sym c.are_allowed.ensures ∙ c.if-not-are_allowed.false)
+    c.in_ok-matches.ensures c.order_in.ensures
+
+pub returns-clause-proper : goal.returns-clause-proper
+returns-clause-proper c =
+    read-proper (map string_bytes c.args.words.now) c.order_in.result
+    (answered (map string_bytes c.args.words.now) c.in_ok-matches.matches c.order_in.result
+    (sym (mapped-allowed string_bytes c.args.words.now) ∙ sym c.are_allowed.ensures ∙ c.if-not-are_allowed.false)
+    c.in_ok-matches.ensures c.order_in.ensures)

@@ -1,0 +1,159 @@
+-- The words of parts beside what the parser has found.
+use Rattle.std.proofs.Common.{◌≡◌, ℕ, true, false, List, [], ◌∷◌, ◌++◌, ap, sym, ◌∙◌, refl}
+use Rattle.std.specs.Prelude.{◌||◌, codes, if◌then◌else◌}
+use Rattle.std.specs.Str.{bytes_eq}
+use Rattle.std.proofs.lemmas.List.{append-nil}
+use Rattle.fcp_model.specs.Spelling.{Bytes}
+use Rattle.clap.specs.Walk.{Row, has_row}
+use Rattle.command_words.specs.declared.run_option.RunOption.{RunOption}
+use Rattle.command_words.specs.declared.run_option.RunOption.TheVariants.{Commits, Moves, Cells}
+use Rattle.command_words.specs.Commands.{name_of}
+use Rattle.command_words.specs.Readings.{Part, apart, is_same, joined, positional, positionals, values_of}
+use Rattle.command_words.proofs.Rows.{IsUsed, are_single, more-texts, none-texts, texts_at}
+
+-- ---- the positional words that were found
+
+pub data Place : Type 0 where
+  first second full : Place
+
+-- a positional word is the k-th
+abbrev pub place_index : Place → ℕ
+place_index first = 1
+place_index second = 2
+place_index full = 3
+
+abbrev pub IsAt : Place → List Row → Type 0
+IsAt first rows = (has_row (codes "file") rows ≡ false) × (has_row (codes "goal") rows ≡ false)
+IsAt second rows = (has_row (codes "file") rows ≡ true) × (has_row (codes "goal") rows ≡ false)
+IsAt full rows = (has_row (codes "file") rows ≡ true) × (has_row (codes "goal") rows ≡ true)
+
+pub file-placed : (w : Bytes) (rows after : List Row) → IsAt first rows → IsUsed (codes "file") w rows after → IsAt second after
+file-placed w rows after h u = (u.has (codes "file"), u.has (codes "goal") ∙ h.1)
+
+pub goal-placed : (w : Bytes) (rows after : List Row) → IsAt second rows → IsUsed (codes "goal") w rows after → IsAt full after
+goal-placed w rows after h u = (u.has (codes "file") ∙ h.0, u.has (codes "goal"))
+
+no-file : (o : RunOption) → bytes_eq (name_of o) (codes "file") ≡ false
+no-file Commits = refl
+no-file Moves = refl
+no-file Cells = refl
+
+no-goal : (o : RunOption) → bytes_eq (name_of o) (codes "goal") ≡ false
+no-goal Commits = refl
+no-goal Moves = refl
+no-goal Cells = refl
+
+pub number-placed : (o : RunOption) (place : Place) (v : Bytes) (rows after : List Row) → IsAt place rows → IsUsed (name_of o) v rows after
+    → IsAt place after
+number-placed o place v rows after h u =
+    let file : has_row (codes "file") after ≡ has_row (codes "file") rows =
+    u.has (codes "file") ∙ ap (λ b. b || has_row (codes "file") rows) (no-file o) in
+    let goal : has_row (codes "goal") after ≡ has_row (codes "goal") rows =
+    u.has (codes "goal") ∙ ap (λ b. b || has_row (codes "goal") rows) (no-goal o) in
+    go place h file goal
+  where
+    go : (place : Place) → IsAt place rows → has_row (codes "file") after ≡ has_row (codes "file") rows
+        → has_row (codes "goal") after ≡ has_row (codes "goal") rows
+        → IsAt place after
+    go first h file goal = (file ∙ h.0, goal ∙ h.1)
+    go second h file goal = (file ∙ h.0, goal ∙ h.1)
+    go full h file goal = (file ∙ h.0, goal ∙ h.1)
+
+-- ---- words that were found, and those of parts behind them
+
+abbrev pub words_with : List Row → List Part → List Bytes
+words_with rows parts = texts_at (codes "file") rows ++ (texts_at (codes "goal") rows ++ positionals parts)
+
+abbrev pub values_with : RunOption → List Row → List Part → List Bytes
+values_with o rows parts = texts_at (name_of o) rows ++ values_of o parts
+
+-- one part before the others, or found already
+pub record IsFound (p : Part) (rows after : List Row) : Type 0 where
+  pub words : (parts : List Part) → words_with after parts ≡ words_with rows (p ∷ parts)
+  pub values : (o : RunOption) (parts : List Part) → values_with o after parts ≡ values_with o rows (p ∷ parts)
+
+other-values : (id v : Bytes) (o : RunOption) (rows after : List Row) → IsUsed id v rows after → bytes_eq id (name_of o) ≡ false
+    → texts_at (name_of o) after ≡ texts_at (name_of o) rows
+other-values id v o rows after u e = u.texts (name_of o) ∙ ap (λ b. if b then v ∷ [] else texts_at (name_of o) rows) e
+
+file-number : (o : RunOption) → bytes_eq (codes "file") (name_of o) ≡ false
+file-number Commits = refl
+file-number Moves = refl
+file-number Cells = refl
+
+goal-number : (o : RunOption) → bytes_eq (codes "goal") (name_of o) ≡ false
+goal-number Commits = refl
+goal-number Moves = refl
+goal-number Cells = refl
+
+pub file-found : (w : Bytes) (rows after : List Row) → IsAt first rows → IsUsed (codes "file") w rows after
+    → IsFound (positional w) rows after
+file-found w rows after h u =
+    let file : texts_at (codes "file") after ≡ w ∷ [] = u.texts (codes "file") in
+    let goal : texts_at (codes "goal") after ≡ [] = u.texts (codes "goal") ∙ none-texts (codes "goal") rows h.1 in
+    let no_file = none-texts (codes "file") rows h.0 in
+    let no_goal = none-texts (codes "goal") rows h.1 in
+    record {
+      words = λ parts. rw (file, goal, no_file, no_goal);
+      values = λ o parts. ap (λ x. x ++ values_of o parts) (other-values (codes "file") w o rows after u (file-number o));
+    }
+
+pub goal-found : (w : Bytes) (rows after : List Row) → IsAt second rows → IsUsed (codes "goal") w rows after
+    → IsFound (positional w) rows after
+goal-found w rows after h u =
+    let file : texts_at (codes "file") after ≡ texts_at (codes "file") rows = u.texts (codes "file") in
+    record {
+      words = λ parts.
+          ap (λ x. x ++ (texts_at (codes "goal") after ++ positionals parts)) file
+          ∙ ap (λ x. texts_at (codes "file") rows ++ x) (more-texts (codes "goal") w rows after u h.1 (codes "goal") (positionals parts));
+      values = λ o parts. ap (λ x. x ++ values_of o parts) (other-values (codes "goal") w o rows after u (goal-number o));
+    }
+
+same-names : (o p : RunOption) → bytes_eq (name_of p) (name_of o) ≡ is_same o p
+same-names Commits Commits = refl
+same-names Commits Moves = refl
+same-names Commits Cells = refl
+same-names Moves Commits = refl
+same-names Moves Moves = refl
+same-names Moves Cells = refl
+same-names Cells Commits = refl
+same-names Cells Moves = refl
+same-names Cells Cells = refl
+
+pub apart-found : (p : RunOption) (v : Bytes) (rows after : List Row) → has_row (name_of p) rows ≡ false
+    → IsUsed (name_of p) v rows after
+    → IsFound (apart p v) rows after
+apart-found p v rows after e u =
+    let file : texts_at (codes "file") after ≡ texts_at (codes "file") rows = u.texts (codes "file") ∙ rw (no-file p) in
+    let goal : texts_at (codes "goal") after ≡ texts_at (codes "goal") rows = u.texts (codes "goal") ∙ rw (no-goal p) in
+    record {
+      words = λ parts. rw (file, goal);
+      values = λ o parts.
+          more-texts (name_of p) v rows after u e (name_of o) (values_of o parts)
+          ∙ ap (λ b. texts_at (name_of o) rows ++ (if b then v ∷ values_of o parts else values_of o parts)) (same-names o p);
+    }
+
+pub joined-found : (p : RunOption) (v : Bytes) (rows after : List Row) → IsFound (apart p v) rows after → IsFound (joined p v) rows after
+joined-found p v rows after f = record { words = f.words; values = f.values }
+
+-- ---- what was found in the end
+
+pub record HasFound (rows : List Row) (parts : List Part) (end : List Row) : Type 0 where
+  pub single : are_single end ≡ true
+  pub words : texts_at (codes "file") end ++ texts_at (codes "goal") end ≡ words_with rows parts
+  pub values : (o : RunOption) → texts_at (name_of o) end ≡ values_with o rows parts
+
+pub found-none : (rows : List Row) → are_single rows ≡ true → HasFound rows [] rows
+found-none rows s = record {
+  single = s;
+  words = ap (λ x. texts_at (codes "file") rows ++ x) (sym (append-nil (texts_at (codes "goal") rows)));
+  values = λ o. sym (append-nil (texts_at (name_of o) rows));
+}
+
+pub found-more : (p : Part) (parts : List Part) (rows after end : List Row) → IsFound p rows after → HasFound after parts end
+    → HasFound rows (p ∷ parts) end
+found-more p parts rows after end f h = record {
+  single = h.single;
+  words = h.words ∙ f.words parts;
+  values = λ o. h.values o ∙ f.values o parts;
+}
