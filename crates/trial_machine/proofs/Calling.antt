@@ -27,8 +27,8 @@ use Rattle.trial_laws.specs.Endings.{IsOfSource}
 use Rattle.steady_tries.specs.Steady.{arguments_of}
 use Rattle.steady_tries.specs.Ends.{IsOfProgram}
 use Rattle.trial_machine.specs.declared.machine.Machine.{Machine}
-use Rattle.trial_machine.specs.declared.decide.Decided.{Decided}
-use Rattle.trial_machine.specs.declared.decide.Decided.TheVariants.{Fails}
+use Rattle.trial_machine.specs.declared.decide.Trial.{Trial}
+use Rattle.trial_machine.specs.declared.decide.Trial.TheVariants.{Fails}
 use Rattle.trial_machine.specs.Machines.{Frame, course}
 use Rattle.trial_machine.specs.Goals.{Calls, NoGoal}
 use Rattle.trial_machine.specs.Deciding.{IsCodeOf, Decides, Concludes}
@@ -216,7 +216,7 @@ calls_on kept kept' p f n grows c = record {
 }
 
 -- what is concluded along the procedure's code is decided for the process
-pub decided : (t : Tables) (p f n first : ℕ) (e : Entrance) (old new : Machine) (d : Decided) → Calls old.trail.kept p f n
+pub decided : (t : Tables) (p f n first : ℕ) (e : Entrance) (old new : Machine) (d : Trial) → Calls old.trail.kept p f n
     → f < TRUE_PROCEDURE → slice_get t.procedures f ≡ Some e → n ≡ e.arity → e.first ≡ first
     → Concludes (frame t f first p) old new d → Decides t new p d
 decided t p f n first e old new d calls below there arity begins h = record {

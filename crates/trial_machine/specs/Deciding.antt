@@ -11,21 +11,21 @@ use Rattle.trial_laws.specs.Leading.{IsTermWord}
 use Rattle.steady_tries.specs.Ends.{IsOfProgram}
 use Rattle.trial_machine.specs.declared.machine.Machine.{Machine}
 use Rattle.trial_machine.specs.declared.run.Outcome.{Outcome}
-use Rattle.trial_machine.specs.declared.decide.Decided.{Decided}
-use Rattle.trial_machine.specs.declared.decide.Decided.TheVariants.{Commits, Waits, Fails}
+use Rattle.trial_machine.specs.declared.decide.Trial.{Trial}
+use Rattle.trial_machine.specs.declared.decide.Trial.TheVariants.{Commit, Wait, Fails}
 use Rattle.trial_machine.specs.Machines.{Frame, course}
 use Rattle.trial_machine.specs.Running.{CameTo}
 
 -- what is decided for the process at p: the clause that commits with its bindings and pieces, the places for which it waits, or failure
-abbrev pub Says : Machine → ℕ → Decided → Program → Type 0
-Says new p Commits m = TriedCommit m new.trail.kept p new.desk.clause (of_store new.trail.binds) new.desk.pieces
-Says new p Waits m = TriedWait m new.trail.kept p new.waits
+abbrev pub Says : Machine → ℕ → Trial → Program → Type 0
+Says new p Commit m = TriedCommit m new.trail.kept p new.desk.clause (of_store new.trail.binds) new.desk.pieces
+Says new p Wait m = TriedWait m new.trail.kept p new.waits
 Says new p Fails m = TriedFail m new.trail.kept p
 
 -- and whatever the program is, that is sound by what was kept
-abbrev pub IsHandedOver : Machine → Decided → Type 0
-IsHandedOver new Commits = IsReadCommit new.trail.kept (of_store new.trail.binds) new.desk.pieces
-IsHandedOver new Waits = IsReadWait new.trail.kept new.waits
+abbrev pub IsHandedOver : Machine → Trial → Type 0
+IsHandedOver new Commit = IsReadCommit new.trail.kept (of_store new.trail.binds) new.desk.pieces
+IsHandedOver new Wait = IsReadWait new.trail.kept new.waits
 IsHandedOver new Fails = Unit {0}
 
 -- The code is that of a program.
@@ -34,22 +34,22 @@ pub record IsCodeOf (t : Tables) (m : Program) : Type 0 where
   pub names : NamesSource m (compiled t)
 
 -- The process at p is decided, by what was kept.
-pub record Decides (t : Tables) (new : Machine) (p : ℕ) (d : Decided) : Type 0 where
+pub record Decides (t : Tables) (new : Machine) (p : ℕ) (d : Trial) : Type 0 where
   pub says : (m : Program) → IsCodeOf t m → Says new p d m
   pub handed : IsHandedOver new d
 
 -- so whatever the program is, as for the built-in processes
-pub record DecidesAll (new : Machine) (p : ℕ) (d : Decided) : Type 0 where
+pub record DecidesAll (new : Machine) (p : ℕ) (d : Trial) : Type 0 where
   pub says : (m : Program) → Says new p d m
   pub handed : IsHandedOver new d
 
 -- At the end of a trial along a frame it is decided, for each program of which the frame's code is.
-pub record Concludes (f : Frame) (old new : Machine) (d : Decided) : Type 0 where
+pub record Concludes (f : Frame) (old new : Machine) (d : Trial) : Type 0 where
   pub says : (m : Program) → IsOfProgram (course f old) old.trail.kept m → Says new f.process d m
   pub handed : IsHandedOver new d
 
 -- so it is wherever a trial came to this end
-abbrev pub ConcludesAll : Machine → Machine → Outcome → Decided → Type 0
+abbrev pub ConcludesAll : Machine → Machine → Outcome → Trial → Type 0
 ConcludesAll old new o d = (f : Frame) → CameTo old f o → Concludes f old new d
 
 -- Each word to which a place is bound may be a term's, and own places took what they are bound to; or one of them may not.

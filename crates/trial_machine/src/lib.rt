@@ -15,5 +15,5 @@ mod step;
 mod tests;
 mod unify;
 
-pub use decide::Decided;
+pub use decide::Trial;
 pub use machine::Machine;
