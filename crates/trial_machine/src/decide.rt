@@ -6,7 +6,7 @@ ghost use Rattle.word_states.specs.Pieces.{StartsAt};
 ghost use Rattle.trial_laws.specs.AtHand.{end_of};
 ghost use Rattle.trial_laws.specs.Leading.{IsTermWord};
 ghost use Rattle.safe_tries.specs.Stored.{IsStored};
-ghost use Rattle.trial_machine.specs.Deciding.{Decides, DecidesAll, ConcludesAll, Settles};
+ghost use Rattle.trial_machine.specs.Deciding.{IsDecided, DecidesAll, ConcludesAll, Settles, at_end};
 ghost use Rattle.trial_machine.specs.Goals.{Calls, HasStatus, IsIdle};
 ghost use Rattle.trial_machine.specs.Machines.{Frame};
 ghost use Rattle.trial_machine.specs.Running.{CameTo};
@@ -106,7 +106,7 @@ impl Machine {
         ensures between { W.later words.old words.new }
         ensures loaded { OnOk result (Loads W.addresses W.sound W.had W.shown W.later W.gave self.old.trail.kept words.old
             self.new.trail.kept words.new) }
-        ensures decides { IfOk result (λ d. Decides code.now self.new process d) }
+        ensures decides { IfOk result (λ d. IsDecided code.now (at_end self.new) process d) }
         ensures count { length self.new.desk.slots.slots ≡ length self.old.desk.slots.slots }
     {
         let Some((_, arity)) = code.name(procedure) else {
@@ -199,7 +199,7 @@ impl Machine {
     /// Decides the process at an address, by words that it loads. The slots are as many as the code names, or more. An assignment is
     /// not decided yet: the answer is `NoMemory`, though memory is left. After `NoMemory` the machine decides other processes as
     /// before.
-    pub fn decide<W: Words>(
+    pub(crate) fn decide<W: Words>(
         &mut self,
         code: &Code,
         process: u32,
@@ -210,7 +210,7 @@ impl Machine {
         requires slots { code.now.slots ≤ length self.old.desk.slots.slots }
         ensures between { W.later words.old words.new }
         ensures loaded { OnOk result (Loads W.addresses W.sound W.had W.shown W.later W.gave [] words.old self.new.trail.kept words.new) }
-        ensures decides { IfOk result (λ d. Decides code.now self.new process d) }
+        ensures decides { IfOk result (λ d. IsDecided code.now (at_end self.new) process d) }
         ensures count { length self.new.desk.slots.slots ≡ length self.old.desk.slots.slots }
     {
         let Some((procedure, count)) = self.load_call(words, process)? else {

@@ -5,14 +5,17 @@ mod decide;
 mod goal;
 mod leave;
 mod machine;
+mod make;
 mod open;
 mod open_tuple;
 mod places;
 mod put;
+mod readers;
 mod run;
 mod spawn;
 mod step;
 mod tests;
+mod trial;
 mod unify;
 
 pub use decide::Trial;
