@@ -29,7 +29,7 @@ impl Machine {
         self.waits.as_slice()
     }
 
-    /// The number of the clause that commits, from 1.
+    /// The number of the clause that commits, from 1; of a built-in process it is 0.
     pub fn clause(&self) -> u32
         ensures { result ≡ self.now.desk.clause }
     {
