@@ -40,8 +40,8 @@ use Rattle.steady_tries.specs.Ends.{IsOfProgram}
 use Rattle.steady_tries.proofs.Going.{the_store, tried_less}
 use Rattle.steady_tries.proofs.Testing.{each_one}
 use Rattle.trial_machine.specs.declared.machine.Machine.{Machine}
-use Rattle.trial_machine.specs.declared.decide.Decided.{Decided}
-use Rattle.trial_machine.specs.declared.decide.Decided.TheVariants.{Waits, Fails}
+use Rattle.trial_machine.specs.declared.decide.Trial.{Trial}
+use Rattle.trial_machine.specs.declared.decide.Trial.TheVariants.{Wait, Fails}
 use Rattle.trial_machine.specs.Assigning.{ExpressionSays, WereOpen}
 use Rattle.trial_machine.specs.Deciding.{Concludes, DecidesAll}
 use Rattle.trial_machine.specs.Goals.{Calls, NoGoal, AreKept, HoldsArguments, ArgumentsRead}
@@ -119,7 +119,7 @@ assign_of kept p n z rs c says m prog = record {
 }
 
 -- so it is decided at the end of the trial, by what was kept before
-pub assign_decided : (kept : WordList) (p n : ℕ) (z : ℤ) (rs : List ℕ) (old new : Machine) (d : Decided) → Calls kept p ASSIGN_PROCEDURE n
+pub assign_decided : (kept : WordList) (p n : ℕ) (z : ℤ) (rs : List ℕ) (old new : Machine) (d : Trial) → Calls kept p ASSIGN_PROCEDURE n
     → ExpressionSays kept p (came.Value z) rs → ((a x : ℕ) → word_at kept a ≡ Some x → word_at old.trail.kept a ≡ Some x)
     → Concludes (assign_frame z p) old new d → DecidesAll new p d
 assign_decided kept p n z rs old new d c says grows h = record {
@@ -146,7 +146,7 @@ noted_open kept rs waits opened noted a i =
 -- or it waits for the places that it read
 pub wait_decided : (old new : Machine) (p n : ℕ) → Calls old.trail.kept p ASSIGN_PROCEDURE n
     → ExpressionSays old.trail.kept p came.Wait old.trail.reads.items → WereOpen old.trail.kept old.trail.reads.items → old.waits ≡ []
-    → old.desk.slots.args ≡ [] → HasLeft old new false → LeftSafe old new → AreOnce new.trail.kept → DecidesAll new p Waits
+    → old.desk.slots.args ≡ [] → HasLeft old new false → LeftSafe old new → AreOnce new.trail.kept → DecidesAll new p Wait
 wait_decided old new p n c says opened none no_args left safe once = record {
   says = λ prog w vs bound g t.
       let a = expression_comes old.trail.kept p n came.Wait old.trail.reads.items c says w vs bound g

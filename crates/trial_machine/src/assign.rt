@@ -11,7 +11,7 @@ ghost use Rattle.trial_machine.specs.Goals.{Calls, HasStatus, HasArguments, IsId
 ghost use Rattle.trial_machine.specs.Machines.{StepsOn, KeepsMachine};
 ghost use Rattle.trial_machine.specs.Stores.{Loads};
 
-use crate::decide::Decided;
+use crate::decide::Trial;
 use crate::goal::load_word;
 use crate::machine::Machine;
 use fcp_model::NoMemory;
@@ -64,7 +64,7 @@ impl Machine {
         process: u32,
         count: u32,
         value: i64,
-    ) -> Result<Decided, NoMemory>
+    ) -> Result<Trial, NoMemory>
         requires stored { IsStored W.addresses W.sound W.had W.shown W.later self.old.trail.kept words.old }
         requires process { HasStatus W.had words.old process }
         requires call { Calls self.old.trail.kept process ASSIGN_PROCEDURE count }
@@ -79,7 +79,7 @@ impl Machine {
         ensures count { length self.new.desk.slots.slots ≡ length self.old.desk.slots.slots }
     {
         if !self.load_arguments(words, process, 1)? {
-            return Ok(Decided::Fails);
+            return Ok(Trial::Fails);
         }
         if !self.desk.slots.has(1) {
             return Err(NoMemory);
@@ -103,7 +103,7 @@ impl Machine {
         requires opened { WereOpen self.old.trail.kept self.old.trail.reads.items }
         requires waits { self.old.waits ≡ [] }
         requires none { self.old.desk.slots.args ≡ [] }
-        ensures decides { OnOk result (DecidesAll self.new process Decided.Waits) }
+        ensures decides { OnOk result (DecidesAll self.new process Trial.Wait) }
         ensures kept { self.new.trail.kept ≡ self.old.trail.kept }
         ensures count { length self.new.desk.slots.slots ≡ length self.old.desk.slots.slots }
     {
