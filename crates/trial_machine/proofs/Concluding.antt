@@ -1,16 +1,13 @@
 -- What is decided at the end of a trial.
 use Rattle.std.proofs.Common.{◌≡◌, ℕ, suc, ◌+◌, ◌<◌, ◌≤◌, ◌*◌, Bool, true, false, cond, List, [], ◌∷◌, length, refl}
-use Rattle.std.proofs.Common.{sym, ap, ◌∙◌, subst, arith, Option, Some, None}
-use Rattle.std.specs.Prelude.{slice_get}
-use Rattle.fcp_model.specs.Programs.{Program}
+use Rattle.std.proofs.Common.{sym, ap, ◌∙◌, subst, arith, Option, Some}
 use Rattle.heap_words.specs.Trails.{WordList, word_at, AreOnce}
 use Rattle.heap_words.specs.WordsLaws.{WordsLaws}
 use Rattle.word_states.specs.Trials.{IsTried, TriedCommit, IsReadCommit}
 use Rattle.word_states.specs.Pieces.{StartsAt, is_place, place_words}
 use Rattle.trial_laws.specs.Laws.{places_for}
 use Rattle.steady_tries.proofs.Places.{places_many}
-use Rattle.machine_code.specs.Instructions.{Commit}
-use Rattle.trial_laws.specs.AtHand.{AtHand, end_of}
+use Rattle.trial_laws.specs.AtHand.{end_of}
 use Rattle.trial_laws.specs.Endings.{of_store, settled}
 use Rattle.trial_laws.specs.Leading.{IsTermWord}
 use Rattle.trial_laws.proofs.LedEnds.{terms_stand}
@@ -25,7 +22,7 @@ use Rattle.trial_machine.specs.declared.machine.Machine.{Machine}
 use Rattle.trial_machine.specs.declared.run.Outcome.TheVariants as outcome
 use Rattle.trial_machine.specs.declared.decide.Decided.{Decided}
 use Rattle.trial_machine.specs.declared.decide.Decided.TheVariants.{Commits, Waits, Fails}
-use Rattle.trial_machine.specs.Machines.{Frame, course, at_machine, IsOnWay, NoStore}
+use Rattle.trial_machine.specs.Machines.{Frame, course, at_machine}
 use Rattle.trial_machine.specs.Running.{CameTo}
 use Rattle.trial_machine.specs.Deciding.{Concludes, Settles}
 use Rattle.trial_machine.proofs.Settling.{own_open}

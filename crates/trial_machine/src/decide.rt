@@ -216,20 +216,20 @@ impl Machine {
             Evaluated::Value(value) => {
                 // What the expression read is not the try's own.
                 self.trail.forget_reads();
-                let decided = self.assign(words, process, count, value)?;
+                let decided = self.assign(words, process, value)?;
                 Ok(decided)
             }
             Evaluated::Bad => Ok(Decided::Fails),
             Evaluated::Wait => {
-                self.wait(words, process, count)?;
+                self.wait(words, process)?;
                 Ok(Decided::Waits)
             }
         }
     }
 
-    /// Decides the process at an address, by words that it loads. The slots are as many as the code names, or more. An assignment is
-    /// not decided yet: the answer is `NoMemory`, though memory is left. After `NoMemory` the machine decides other processes as
-    /// before.
+    /// Decides the process at an address, by words that it loads. The slots are as many as the code names, or more. An assignment
+    /// takes a second slot for its number: where there is none, the answer is `NoMemory`, though memory is left. After `NoMemory` the
+    /// machine decides other processes as before.
     pub fn decide<W: Words>(
         &mut self,
         code: &Code,
