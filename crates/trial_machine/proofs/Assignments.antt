@@ -1,6 +1,6 @@
 -- The trial of a process that assigns.
-use Rattle.std.proofs.Common.{◌≡◌, ◌⊎◌, ℕ, zero, suc, ◌+◌, ◌<◌, ◌≤◌, ℤ, true, false, List, [], ◌∷◌, ◌++◌, refl, sym, ap, ◌∙◌, subst}
-use Rattle.std.proofs.Common.{⊎_elim, inl, inr, arith, Option, Some, None}
+use Rattle.std.proofs.Common.{◌≡◌, ℕ, zero, suc, ◌+◌, ◌<◌, ℤ, true, false, List, [], ◌∷◌, ◌++◌, refl, sym, ap, ◌∙◌, subst}
+use Rattle.std.proofs.Common.{⊎_elim, arith, Option, Some, None}
 use Rattle.std.specs.Prelude.{unwrap_or, slice_get}
 use Rattle.std.proofs.lemmas.Option.{same_Some}
 use Rattle.fcp_model.specs.Places.{Variable}
@@ -10,7 +10,7 @@ use Rattle.fcp_model.specs.Programs.{Goal, user, true', unifies, assigns, Progra
 use Rattle.fcp_model.specs.declared.goal.TheConstants.{TRUE_PROCEDURE, UNIFY_PROCEDURE, ASSIGN_PROCEDURE}
 use Rattle.fcp_model.specs.Cells.{clause_used}
 use Rattle.fcp_model.specs.Events.{vars_of}
-use Rattle.heap_words.specs.Trails.{WordList, Memory, word_at, Agrees, Says, AreOnce}
+use Rattle.heap_words.specs.Trails.{WordList, word_at, Says, AreOnce}
 use Rattle.heap_words.specs.WordsLaws.{WordsLaws}
 use Rattle.ro_unify.specs.Walks.{first_some, Tame}
 use Rattle.ro_unify.proofs.Ending.{tame_free}
@@ -28,7 +28,6 @@ use Rattle.trial_laws.specs.BuiltIns.{assign_code}
 use Rattle.trial_laws.specs.Endings.{IsOfSource}
 use Rattle.trial_laws.specs.Laws as laws
 use Rattle.trial_laws.proofs.BuiltInLaws.{assign_so, bad_so, unready_so}
-use Rattle.safe_tries.specs.Safe.{KeptOpen}
 use Rattle.safe_tries.specs.Stored.{IsStored}
 use Rattle.stored_tries.proofs.Handing.{wait}
 use Rattle.stored_tries.proofs.Stores.{none_own}

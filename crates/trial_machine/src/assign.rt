@@ -62,13 +62,11 @@ impl Machine {
         &mut self,
         words: &mut W,
         process: u32,
-        count: u32,
         value: i64,
     ) -> Result<Trial, NoMemory>
         requires stored { IsStored W.addresses W.sound W.had W.shown W.later self.old.trail.kept words.old }
         requires process { HasStatus W.had words.old process }
-        requires call { Calls self.old.trail.kept process ASSIGN_PROCEDURE count }
-        requires two { count ≡ 2 }
+        requires call { Calls self.old.trail.kept process ASSIGN_PROCEDURE 2 }
         requires says { (rs : List ℕ) × ExpressionSays self.old.trail.kept process (came.Value value) rs }
         requires idle { IsIdle self.old }
         requires none { self.old.desk.slots.args ≡ [] }
@@ -91,14 +89,9 @@ impl Machine {
     }
 
     /// A process that assigns waits for the places that its expression read.
-    pub(crate) fn wait<W: Words>(
-        &mut self,
-        words: &W,
-        process: u32,
-        count: u32,
-    ) -> Result<(), NoMemory>
+    pub(crate) fn wait<W: Words>(&mut self, words: &W, process: u32) -> Result<(), NoMemory>
         requires stored { IsStored W.addresses W.sound W.had W.shown W.later self.old.trail.kept words.now }
-        requires call { Calls self.old.trail.kept process ASSIGN_PROCEDURE count }
+        requires call { Calls self.old.trail.kept process ASSIGN_PROCEDURE 2 }
         requires says { ExpressionSays self.old.trail.kept process came.Wait self.old.trail.reads.items }
         requires opened { WereOpen self.old.trail.kept self.old.trail.reads.items }
         requires waits { self.old.waits ≡ [] }

@@ -216,12 +216,12 @@ impl Machine {
             Evaluated::Value(value) => {
                 // What the expression read is not the try's own.
                 self.trail.forget_reads();
-                let decided = self.assign(words, process, count, value)?;
+                let decided = self.assign(words, process, value)?;
                 Ok(decided)
             }
             Evaluated::Bad => Ok(Trial::Fails),
             Evaluated::Wait => {
-                self.wait(words, process, count)?;
+                self.wait(words, process)?;
                 Ok(Trial::Wait)
             }
         }
