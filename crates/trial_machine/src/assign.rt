@@ -56,8 +56,8 @@ impl Machine {
         Ok(())
     }
 
-    /// Decides a process that assigns, by the number of its expression: the first argument is unified with it. Where there is no
-    /// second slot to take the number, the answer is `NoMemory`.
+    /// Decides a process that assigns, by the number of its expression: the first argument is unified with it. The second slot takes the
+    /// number.
     pub(crate) fn assign<W: Words>(
         &mut self,
         words: &mut W,
@@ -70,6 +70,7 @@ impl Machine {
         requires says { (rs : List ℕ) × ExpressionSays self.old.trail.kept process (came.Value value) rs }
         requires idle { IsIdle self.old }
         requires none { self.old.desk.slots.args ≡ [] }
+        requires two { 2 ≤ length self.old.desk.slots.slots }
         ensures between { W.later words.old words.new }
         ensures loaded { OnOk result (Loads W.addresses W.sound W.had W.shown W.later W.gave self.old.trail.kept words.old
             self.new.trail.kept words.new) }
@@ -78,9 +79,6 @@ impl Machine {
     {
         if !self.load_arguments(words, process, 1)? {
             return Ok(Trial::Fails);
-        }
-        if !self.desk.slots.has(1) {
-            return Err(NoMemory);
         }
         self.begin_try(0, 4, 0)?;
         self.put_integer(1, value)?;

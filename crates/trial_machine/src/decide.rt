@@ -203,6 +203,7 @@ impl Machine {
         requires call { Calls self.old.trail.kept process ASSIGN_PROCEDURE count }
         requires idle { IsIdle self.old }
         requires none { self.old.desk.slots.args ≡ [] }
+        requires two { 2 ≤ length self.old.desk.slots.slots }
         ensures between { W.later words.old words.new }
         ensures loaded { OnOk result (Loads W.addresses W.sound W.had W.shown W.later W.gave self.old.trail.kept words.old
             self.new.trail.kept words.new) }
@@ -227,9 +228,8 @@ impl Machine {
         }
     }
 
-    /// Decides the process at an address, by words that it loads. The slots are as many as the code names, or more. An assignment is
-    /// not decided yet: the answer is `NoMemory`, though memory is left. After `NoMemory` the machine decides other processes as
-    /// before.
+    /// Decides the process at an address, by words that it loads. The slots are as many as the code names, or more, and two at least: an
+    /// assignment takes the second one for its number. After `NoMemory` the machine decides other processes as before.
     pub(crate) fn decide<W: Words>(
         &mut self,
         code: &Code,
@@ -239,6 +239,7 @@ impl Machine {
         requires stored { IsStored W.addresses W.sound W.had W.shown W.later [] words.old }
         requires process { HasStatus W.had words.old process }
         requires slots { code.now.slots ≤ length self.old.desk.slots.slots }
+        requires two { 2 ≤ length self.old.desk.slots.slots }
         ensures between { W.later words.old words.new }
         ensures loaded { OnOk result (Loads W.addresses W.sound W.had W.shown W.later W.gave [] words.old self.new.trail.kept words.new) }
         ensures decides { IfOk result (λ d. IsDecided code.now (at_end self.new) process d) }
