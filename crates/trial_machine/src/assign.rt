@@ -1,5 +1,5 @@
 //! How a process that assigns is decided.
-ghost use Rattle.std.specs.Prelude.{◌≡◌, ◌<◌, ℕ, List, [], length, OnOk, IfOk};
+ghost use Rattle.std.specs.Prelude.{◌≤◌, ◌≡◌, ◌<◌, ℕ, List, [], length, OnOk, IfOk};
 ghost use Rattle.fcp_model.specs.Terms.{number};
 ghost use Rattle.fcp_model.specs.declared.goal.TheConstants.{ASSIGN_PROCEDURE};
 ghost use Rattle.guard_tests.specs.declared.number.Evaluated.TheVariants as came;
