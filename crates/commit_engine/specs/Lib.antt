@@ -1,0 +1,4 @@
+pub mod Halls
+pub mod PlainHalls
+pub mod PlainLaws
+pub mod Turns

@@ -1,0 +1,12 @@
+//! A turn of a process over a hall makes exactly the entry that is decided.
+#![tactic(auto)]
+
+mod answer;
+mod hall;
+mod plain_hall;
+mod turns;
+
+pub use answer::{Spent, Turn};
+pub use hall::Hall;
+pub use plain_hall::PlainHall;
+pub use turns::turn;
