@@ -62,3 +62,10 @@ module _ {S : Type 0} {addresses : S → ℕ} {sound : S → Type 0} {knows : S 
     holds = starts_holding laws kept binds w e f;
     tame = starts_tame laws kept binds w e f s;
   }
+
+  -- what was loaded since the trail was cleared
+  pub loaded_cleared : {kept binds kept' binds' : WordList} {v w : S} → kept ≡ [] → binds ≡ []
+      → KeepsLoads sound had leads later gave kept binds v kept' binds' w → KeepsLoads sound had leads later gave [] [] v kept' binds' w
+  loaded_cleared {kept = kept} {kept' = kept'} {binds' = binds'} {v = v} {w = w} e f l =
+      subst (λ (ks : WordList). KeepsLoads sound had leads later gave ks [] v kept' binds' w) e
+      (subst (λ (bs : WordList). KeepsLoads sound had leads later gave kept bs v kept' binds' w) f l)
