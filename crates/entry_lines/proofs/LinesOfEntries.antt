@@ -152,8 +152,11 @@ pub hang_adds : (names : List Bytes) (kept : WordList) (entry : ℕ) (process : 
 hang_adds names kept entry process waits found sorted old new named same by_age behind w book ev has is = record {
   added = hang_line entry process ev.waits_for;
   behind = behind ∙ ap (λ (l : List Place). old ++ hang_line entry process l) one;
-  given = (0, λ k h. ap (λ (e : Entry). option_map (line_of ev.after.entries) (entry_text k names ev e)) is.is
-      ∙ ap (λ (n : ℕ). Some (hang_line n process ev.waits_for)) is.number);
+  given = (
+    0,
+    λ k h. ap (λ (e : Entry). option_map (line_of ev.after.entries) (entry_text k names ev e)) is.is
+        ∙ ap (λ (n : ℕ). Some (hang_line n process ev.waits_for)) is.number,
+  );
 }
   where
     among : (j : Place) → is_listed j sorted ≡ true → is_listed j ev.waits_for ≡ true

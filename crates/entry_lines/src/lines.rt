@@ -8,9 +8,8 @@ ghost use Rattle.entry_lines.specs.Lines.{CommitLine, HangLine, VariableLines};
 use crate::commits::{push_all_bound, push_woken};
 use crate::hangs::{put_places, sort_once};
 use crate::variables::push_variable;
-use fcp_model::log_lines;
 use fcp_model::spelling::{push_bytes, push_decimal, push_process};
-use fcp_model::{Names, NoMemory, Proc, Sym};
+use fcp_model::{Names, NoMemory, Proc, Sym, log_lines};
 use heap_words::{Trail, Words};
 use word_texts::TextLists;
 
