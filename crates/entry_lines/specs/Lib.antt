@@ -1,2 +1,5 @@
 pub mod Additions
 pub mod Lines
+pub mod Reading
+pub mod Texts
+pub mod Waits

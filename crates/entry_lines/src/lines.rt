@@ -5,7 +5,11 @@ ghost use Rattle.heap_words.specs.Trails.{KeepsLoads};
 ghost use Rattle.word_states.specs.Words.{IsIn};
 ghost use Rattle.entry_lines.specs.Lines.{CommitLine, HangLine, VariableLines};
 
-use fcp_model::{Names, NoMemory, Proc, Sym};
+use crate::commits::{push_all_bound, push_woken};
+use crate::hangs::{put_places, sort_once};
+use crate::variables::push_variable;
+use fcp_model::spelling::{push_bytes, push_decimal, push_process};
+use fcp_model::{Names, NoMemory, Proc, Sym, log_lines};
 use heap_words::{Trail, Words};
 use word_texts::TextLists;
 
@@ -31,7 +35,16 @@ pub fn push_commit_line<W: Words>(
     ensures loaded { OnOk result (KeepsLoads W.sound W.had W.leads W.later W.gave [] [] words.old trail.new.kept trail.new.binds words.new) }
     ensures line { OnOk result (CommitLine names.now trail.new.kept entry process clause bound.now woken.now out.old.items out.new.items) }
 {
-    Err(NoMemory)
+    trail.clear();
+    push_decimal(out, entry)?;
+    push_bytes(out, b" commit ")?;
+    push_process(out, process)?;
+    push_bytes(out, b" ")?;
+    push_decimal(out, clause)?;
+    push_all_bound(lists, trail, words, names, out, bound)?;
+    push_woken(trail, words, out, woken)?;
+    push_bytes(out, b"\n")?;
+    Ok(())
 }
 
 /// Puts `N hang #a.b` and the places of the waiting set, by age. `waits` are their addresses, in any order.
@@ -51,7 +64,12 @@ pub fn push_hang_line<W: Words>(
     ensures loaded { OnOk result (KeepsLoads W.sound W.had W.leads W.later W.gave [] [] words.old trail.new.kept trail.new.binds words.new) }
     ensures line { OnOk result (HangLine names.now trail.new.kept entry process waits.now out.old.items out.new.items) }
 {
-    Err(NoMemory)
+    trail.clear();
+    let mut places = Vec::new(*out.allocator());
+    put_places(&mut places, trail, words, waits)?;
+    sort_once(&mut places);
+    log_lines::push_hang_line(out, entry, process, places.as_slice())?;
+    Ok(())
 }
 
 /// Puts a line for each of the goal's variables that has a name, by value and cut after 65,536 nodes. The place of variable k, from 1,
@@ -72,5 +90,9 @@ pub fn push_variable_lines<W: Words>(
     ensures loaded { OnOk result (KeepsLoads W.sound W.had W.leads W.later W.gave [] [] words.old trail.new.kept trail.new.binds words.new) }
     ensures line { OnOk result (VariableLines names.now trail.new.kept variables.now out.old.items out.new.items) }
 {
-    Err(NoMemory)
+    trail.clear();
+    for (at, variable) in variables.iter().enumerate() {
+        push_variable(lists, trail, words, names, out, at as u32 + 1, *variable)?;
+    }
+    Ok(())
 }

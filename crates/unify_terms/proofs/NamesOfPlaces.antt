@@ -1,7 +1,7 @@
 -- Listed variables have names as unification asks.
 use Rattle.std.proofs.Common.{◌≡◌, ◌⊎◌, ℕ, ◌+◌, ◌-◌, ◌*◌, ◌<◌, ◌≤◌, Bool, true, false, cond, pos, [], ◌∷◌, refl, sym, ap, ap₂, ◌∙◌, subst}
 use Rattle.std.proofs.Common.{⊎_elim, inl, inr, arith, true≢false, Option, Some, None}
-use Rattle.std.specs.Prelude.{nat_eq, nat_lt, ◌&&◌, ◌||◌, is_some, unwrap_or}
+use Rattle.std.specs.Prelude.{◌↔◌, nat_eq, nat_lt, ◌&&◌, ◌||◌, is_some, unwrap_or}
 use Rattle.std.proofs.lemmas.Bool.{cond-true, cond-false, cases_lt, eqb-true, eq-eqb, ne_eqb, lt-ltb, le-ltb}
 use Rattle.std.proofs.lemmas.Option.{same_Some}
 use Rattle.fcp_model.specs.declared.run.Place.{Place}
@@ -46,12 +46,19 @@ place_listed vs a e = go (name_at vs a) refl e
     go (Some v) i f =
         subst (λ (u : Variable). Listed vs u a) (sym (ap (λ (p : Option Variable). unwrap_or p (own 0)) i)) (name_listed vs a v i)
 
--- and what is listed is a place of that name
-pub listed_place : (m : Memory) (vs : Addresses) (named : AreNamed m vs) (v : Variable) (a : ℕ) → Listed vs v a → IsPlace (naming vs) m a v
-listed_place m vs named v a h =
+-- each variable has one address, and an address is one variable's
+abbrev pub AreOnce : Addresses → Type 0
+AreOnce vs = (v u : Variable) (a b : ℕ) → Listed vs v a → Listed vs u b → (v ≡ u) ↔ (a ≡ b)
+
+-- and what is listed once is a place of that name
+pub once_place : (m : Memory) (vs : Addresses) → AreOnce vs → (v : Variable) (a : ℕ) → Listed vs v a → IsPlace (naming vs) m a v
+once_place m vs once v a h =
     let r = listed_name vs a v h in
-    let same : r.0 ≡ v = (named.once r.0 v a a (name_listed vs a r.0 r.1) h).1 refl in
+    let same : r.0 ≡ v = (once r.0 v a a (name_listed vs a r.0 r.1) h).1 refl in
     (ap is_some r.1, ap (λ (o : Option Variable). unwrap_or o (own 0)) r.1 ∙ same)
+
+pub listed_place : (m : Memory) (vs : Addresses) (named : AreNamed m vs) (v : Variable) (a : ℕ) → Listed vs v a → IsPlace (naming vs) m a v
+listed_place m vs named v a h = once_place m vs named.once v a h
 
 -- one answer decides both
 bool_same : (x y : Bool) → (x ≡ true → y ≡ true) → (y ≡ true → x ≡ true) → x ≡ y

@@ -20,6 +20,13 @@ use Rattle.unify_terms.specs.WordsOfTries.{HasWords, AreNamed, SayBound, AreLow,
 same_place : (i j : Place) → made i ≡ made j → i ≡ j
 same_place i j e = cc
 
+-- the words of a state say to what its places are bound
+pub state_says : (w : Words) (vs : Addresses) (bound : Bindings) → PlacesStand w vs bound → SayBound w vs [] bound
+state_says w vs bound stand = record {
+  privately = λ v a x h e. (let bad : None ≡ Some x = e in cc);
+  openly = λ v a h e. stand.word v a h;
+}
+
 module _ (w : Words) (vs : Addresses) (bound : Bindings) (stand : PlacesStand w vs bound) (low : AreLow w) where
   -- a place of the store with its name word
   store_place : (m : Memory) → HasWords m w → (j : Place) (a : ℕ) → Listed vs (made j) a
@@ -42,12 +49,6 @@ module _ (w : Words) (vs : Addresses) (bound : Bindings) (stand : PlacesStand w 
     store = store_place m has;
     own_words = λ k a h. no_own k a h;
     rise = λ k l a b h i lt. no_own k a h;
-  }
-
-  pub state_says : SayBound w vs [] bound
-  state_says = record {
-    privately = λ v a x h e. (let bad : None ≡ Some x = e in cc);
-    openly = λ v a h e. stand.word v a h;
   }
 
   module _ (ps : List (List ℕ)) (pieces : (a : ℕ) (p : List ℕ) → StartsAt 4000000000 ps a p → IsPiece p)
@@ -153,7 +154,7 @@ module _ (w : Words) (vs : Addresses) (bound : Bindings) (stand : PlacesStand w 
     }
 
 pub a_state_is_seen : AStateIsSeen
-a_state_is_seen m w vs bound stand low has = (state_named w vs bound stand low m has, state_says w vs bound stand low)
+a_state_is_seen m w vs bound stand low has = (state_named w vs bound stand low m has, state_says w vs bound stand)
 
 pub a_try_is_named : ATryIsNamed
 a_try_is_named m w vs bound ps stand low pieces few has = try_named w vs bound stand low ps pieces few m has

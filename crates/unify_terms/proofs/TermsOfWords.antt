@@ -16,12 +16,12 @@ use Rattle.word_states.proofs.Persisting.{denotes_final}
 use Rattle.unify_terms.specs.Denotes.{Stands, NumberIn, IsNumber, IsPlace}
 use Rattle.unify_terms.specs.Denotes as unified
 use Rattle.unify_terms.specs.WordsOfTries.{memory_of, HasWords, naming, AreNamed, SayBound, AllIsSeen, AllIsSaid}
-use Rattle.unify_terms.proofs.NamesOfPlaces.{place_listed, listed_place, names_of}
+use Rattle.unify_terms.proofs.NamesOfPlaces.{AreOnce, place_listed, once_place, listed_place, names_of}
 
 next : (a : ℕ) → suc a ≡ a + 1
 next a = omega arith
 
-module _ (m : Memory) (w : Words) (vs : Addresses) (named : AreNamed m vs) (has : HasWords m w) where
+module _ (m : Memory) (w : Words) (vs : Addresses) (once : AreOnce vs) (has : HasWords m w) where
   after : (a x : ℕ) → w (suc a) ≡ Some x → m (a + 1) ≡ x
   after a x e = ap m (sym (next a)) ∙ has (suc a) x e
 
@@ -42,8 +42,8 @@ module _ (m : Memory) (w : Words) (vs : Addresses) (named : AreNamed m vs) (has 
     )
     denotes_seen x (tuple ts) h =
         (h.0, h.1, ap decoded (has h.0 h.2.0 h.2.1) ∙ h.2.2, h.3, all_seen h.0 ts h.4)
-    denotes_seen x (var v) h = (h.0, h.1, listed_place m vs named v h.0 h.2)
-    denotes_seen x (ro v) h = (h.0, h.1, listed_place m vs named v h.0 h.2)
+    denotes_seen x (var v) h = (h.0, h.1, once_place m vs once v h.0 h.2)
+    denotes_seen x (ro v) h = (h.0, h.1, once_place m vs once v h.0 h.2)
     denotes_seen x (first k) h = absurd h
 
     all_seen : (a : ℕ) (ts : Terms Variable) → DenotesAll w vs (suc a) ts → unified.DenotesAll (naming vs) m ts a
@@ -90,7 +90,7 @@ module _ (m : Memory) (w : Words) (vs : Addresses) (named : AreNamed m vs) (has 
 
 pub all_is_seen : AllIsSeen
 all_is_seen m w vs named has =
-    record { names = names_of m vs named; denotes = denotes_seen m w vs named has; stands = stands_seen m w vs named has }
+    record { names = names_of m vs named; denotes = denotes_seen m w vs named.once has; stands = stands_seen m w vs named.once has }
 
 -- 12 is no cell's word
 no_cell : decoded 12 ≡ None

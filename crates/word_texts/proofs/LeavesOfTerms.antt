@@ -43,7 +43,7 @@ signed_bits (negsuc n) l =
     ∙ ap negsuc back
 
 -- a name's number gives its place
-place_back : (j : Place) → j.number < 268435456
+pub place_back : (j : Place) → j.number < 268435456
     → place ((268435456 * j.entry + j.number) / 268435456) ((268435456 * j.entry + j.number) % 268435456) ≡ j
 place_back j h =
     let e : (268435456 * j.entry + j.number) / 268435456 ≡ j.entry = omega arith in

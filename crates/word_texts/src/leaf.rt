@@ -58,8 +58,8 @@ fn place_with(name: i64) -> Place
     }
 }
 
-/// The place of a name's word.
-fn place_in(word: u64) -> Place
+/// The place of a name's word; `_0.0` where the word is no name.
+pub fn place_in(word: u64) -> Place
     ensures { result ≡ place_of (decoded word) }
 {
     match decode(word) {

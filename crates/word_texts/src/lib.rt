@@ -8,4 +8,5 @@ mod values;
 mod writing;
 
 pub use items::TextLists;
+pub use leaf::place_in;
 pub use values::value_text;

@@ -1,0 +1,9 @@
+pub mod Agreeing
+pub mod NamedWords
+pub mod ShownValues
+pub mod Adding
+pub mod BoundTexts
+pub mod SoFar
+pub mod ByAge
+pub mod OnePlace
+pub mod LinesOfEntries
