@@ -1,5 +1,4 @@
-//! Lines of words with what they ask for, which the kit's parser of command lines reads in the same way.
-use clap::{Arg, ArgMatches, Command, Error};
+//! Lines of words with what they ask for.
 use command_words::{Order, WordFault, read_words};
 use std::alloc::Global;
 use std::test::Fail;
@@ -35,6 +34,9 @@ const UNREAD: &[&str] = &[
     "show",
     "show f g",
     "help",
+    "help run",
+    "--help",
+    "--version",
     "run  p",
     "run f p ",
     "run f p --commits",
@@ -55,6 +57,11 @@ const UNREAD: &[&str] = &[
     "run - p",
     "run f -p",
     "run f p --help",
+    "run f p -h",
+    "run f p --=5",
+    "run f p --commits=5=",
+    "show -- f",
+    "show --help",
     "show f --commits 5",
     "--commits 5 run f p",
 ];
@@ -117,50 +124,5 @@ fn lines_that_ask_for_nothing(rt: HostRuntime) -> Result<(), Fail> {
         assert_eq!(rt; given, Some(WordFault::Usage), "{line}");
     }
     assert_eq!(rt; read_words(rt.alloc(), &[]).err(), Some(WordFault::Usage));
-    Ok(())
-}
-
-/// The two commands for `clap`.
-fn commands<'a>(alloc: Global) -> Result<Command<'a>, Error> {
-    let run = Command::new(alloc, "run")
-        .arg(Arg::new(alloc, "file"))?
-        .arg(Arg::new(alloc, "goal"))?
-        .arg(Arg::new(alloc, "commits").long("commits"))?
-        .arg(Arg::new(alloc, "moves").long("moves"))?
-        .arg(Arg::new(alloc, "cells").long("cells"))?;
-    let show = Command::new(alloc, "show").arg(Arg::new(alloc, "file"))?;
-    let logix = Command::new(alloc, "logix")
-        .no_binary_name(true)
-        .disable_help_flag(true)
-        .disable_help_subcommand(true)
-        .subcommand(run)?
-        .subcommand(show)?;
-    Ok(logix)
-}
-
-/// Whether a command of `clap` has just what a row wants.
-fn has_values(command: &str, matches: &ArgMatches<'_>, wanted: &str) -> bool {
-    let mut parts = wanted.split(' ');
-    if parts.next() != Some(command) || parts.next() != matches.get_str("file") {
-        return false;
-    }
-    command == "show"
-        || (parts.next() == matches.get_str("goal")
-            && parts.next() == Some(matches.get_str("commits").unwrap_or("-"))
-            && parts.next() == Some(matches.get_str("moves").unwrap_or("-"))
-            && parts.next() == Some(matches.get_str("cells").unwrap_or("-")))
-}
-
-#[test]
-fn clap_reads_the_same(rt: HostRuntime) -> Result<(), Fail> {
-    for (line, wanted) in READ {
-        let words = words_in(rt.alloc(), line)?;
-        let commands = commands(rt.alloc()).expect(&rt, line);
-        let matches = commands
-            .try_get_matches_from(words.as_slice())
-            .expect(&rt, line);
-        let (command, given) = matches.subcommand().expect(&rt, line);
-        assert!(rt; has_values(command, given, wanted), "{line}");
-    }
     Ok(())
 }
