@@ -1,0 +1,61 @@
+-- What a ruling makes of where the run of one worker stands.
+use Rattle.std.specs.Prelude.{◌≡◌, ◌⊎◌, ℕ, ◌+◌, ◌<◌, ◌≤◌, List, [], ◌∷◌, ◌++◌, length}
+use Rattle.fcp_model.specs.declared.run.Proc.{Proc}
+use Rattle.fcp_model.specs.declared.run.Entry.TheVariants.{Commit, Hang, Fail}
+use Rattle.fcp_model.specs.declared.run.Limits.{Limits}
+use Rattle.fcp_model.specs.Programs.{Program}
+use Rattle.fcp_model.specs.States.{State}
+use Rattle.fcp_model.specs.Events.{Event}
+use Rattle.fcp_model.specs.OneWorker.{Schedule, IsOneWorkerRun}
+use Rattle.heap_words.specs.Heaps.{IsHeap, inside_at}
+use Rattle.word_states.specs.Words.{Words, HasAll}
+use Rattle.word_states.specs.Standing.{Book}
+use Rattle.word_states.specs.Going.{Move, MayGo, GoesOn}
+use Rattle.run_laws.specs.Running.{Counts, StandsAt, IsFront, IsOfFront, FailedAt, after_commit, after_hang, after_pass}
+
+-- where a run stands, a move that found what it read may go
+abbrev pub AFoundMoveMayGo : Type 0
+AFoundMoveMayGo = (m : Program) (limits : Limits) (from : State) (vars : ℕ) (ws queue : List ℕ) (c : Counts) (evs : List Event)
+    (at : Schedule) (book : Book) (v : Move) → StandsAt m limits from vars ws queue c evs at book → limits.moves ≤ 1000000
+    → 0 < c.moves → HasAll v.reads (inside_at ws) → MayGo v book ws at.state
+
+-- the event of a move of the front is the one that is decided for it
+abbrev pub AnEventIsOfTheFront : Type 0
+AnEventIsOfTheFront = (m : Program) (limits : Limits) (from : State) (vars : ℕ) (ws rest : List ℕ) (p : ℕ) (c : Counts) (evs : List Event)
+    (at : Schedule) (book : Book) (v : Move) (w' : Words) → StandsAt m limits from vars ws (p ∷ rest) c evs at book
+    → IsFront v ws p rest c → (g : GoesOn m v book at.state w') → IsOfFront m at g.goes.event v.entry
+
+-- behind a commit of the front its children and then the woken processes stand in the queue
+abbrev pub ACommitLeadsOn : Type 0
+ACommitLeadsOn = (m : Program) (limits : Limits) (from : State) (vars : ℕ) (ws ws' rest : List ℕ) (p : ℕ) (c : Counts) (evs : List Event)
+    (at : Schedule) (book : Book) (v : Move) (q : Proc) (k : ℕ) → StandsAt m limits from vars ws (p ∷ rest) c evs at book
+    → IsFront v ws p rest c → (g : GoesOn m v book at.state (inside_at ws')) → v.entry ≡ Commit q k → v.cells ≤ c.cells → IsHeap ws'
+    → (to : Schedule) × StandsAt m limits from vars ws' (rest ++ v.children ++ v.woken) (after_commit c (length v.woken) v.cells)
+        (evs ++ g.goes.event ∷ []) to g.goes.book × (length v.woken ≤ c.asleep)
+
+-- behind a hang of the front the others stand in the queue
+abbrev pub AHangLeadsOn : Type 0
+AHangLeadsOn = (m : Program) (limits : Limits) (from : State) (vars : ℕ) (ws ws' rest : List ℕ) (p : ℕ) (c : Counts) (evs : List Event)
+    (at : Schedule) (book : Book) (v : Move) (q : Proc) → StandsAt m limits from vars ws (p ∷ rest) c evs at book
+    → IsFront v ws p rest c → (g : GoesOn m v book at.state (inside_at ws')) → v.entry ≡ Hang q → v.cells ≤ c.cells → IsHeap ws'
+    → (to : Schedule) × StandsAt m limits from vars ws' rest (after_hang c v.cells) (evs ++ g.goes.event ∷ []) to g.goes.book
+
+-- the front goes to the back where its move has more cells than are left
+abbrev pub APassLeadsOn : Type 0
+APassLeadsOn = (m : Program) (limits : Limits) (from : State) (vars : ℕ) (ws rest : List ℕ) (p : ℕ) (c : Counts) (evs : List Event)
+    (at : Schedule) (book : Book) (v : Move) (w' : Words) → StandsAt m limits from vars ws (p ∷ rest) c evs at book
+    → IsFront v ws p rest c → GoesOn m v book at.state w' → c.cells < v.cells
+    → (to : Schedule) × StandsAt m limits from vars ws (rest ++ p ∷ []) (after_pass c) evs to book
+
+-- the run ends where the front fails
+abbrev pub AFailEnds : Type 0
+AFailEnds = (m : Program) (limits : Limits) (from : State) (vars : ℕ) (ws rest : List ℕ) (p : ℕ) (c : Counts) (evs : List Event)
+    (at : Schedule) (book : Book) (v : Move) (w' : Words) (q : Proc) → StandsAt m limits from vars ws (p ∷ rest) c evs at book
+    → IsFront v ws p rest c → (g : GoesOn m v book at.state w') → v.entry ≡ Fail q
+    → FailedAt m limits from (evs ++ g.goes.event ∷ []) at.state c
+
+-- with an empty queue, without commits or moves left, or where all of the queue went to the back, the run ends
+abbrev pub ALimitEnds : Type 0
+ALimitEnds = (m : Program) (limits : Limits) (from : State) (vars : ℕ) (ws queue : List ℕ) (c : Counts) (evs : List Event)
+    (at : Schedule) (book : Book) → StandsAt m limits from vars ws queue c evs at book
+    → ((queue ≡ []) ⊎ (c.commits ≡ 0)) ⊎ ((c.moves ≡ 0) ⊎ (length queue ≤ c.passed)) → IsOneWorkerRun m limits from [] evs at

@@ -1,0 +1,24 @@
+//! What a ruling makes of where the run of one worker stands, by words that stand for its state. Each function does nothing: its
+//! contract is the law.
+#![tactic(auto)]
+
+ghost use Rattle.run_laws.specs.Laws.{AFoundMoveMayGo, AnEventIsOfTheFront, ACommitLeadsOn, AHangLeadsOn, APassLeadsOn, AFailEnds, ALimitEnds};
+
+/// A move of the front that found what it read may go, and its event is the one that is decided for the front.
+pub fn front_moves()
+    ensures may { AFoundMoveMayGo }
+    ensures event { AnEventIsOfTheFront }
+{}
+
+/// A commit, a hang and a pass lead to where the run stands again.
+pub fn leading_moves()
+    ensures commit { ACommitLeadsOn }
+    ensures hang { AHangLeadsOn }
+    ensures pass { APassLeadsOn }
+{}
+
+/// The run ends with a fail, and at its limits.
+pub fn ends()
+    ensures fail { AFailEnds }
+    ensures limit { ALimitEnds }
+{}
