@@ -77,7 +77,6 @@ pub record IsOfFront (m : Program) (at : Schedule) (ev : Event) (entry : Entry) 
   pub process : Process
   pub behind : List Process
   pub queue : at.queue ≡ process ∷ behind
-  pub steps : ℕ
   pub decision : Decision
   pub decided : Decides m at.state.bound process.goal decision
   pub is : ev ≡ event_of m at.state process decision
