@@ -6,7 +6,7 @@ use Rattle.std.proofs.lemmas.Bool.Decides.{nat_tests}
 use Rattle.fcp_model.specs.declared.run.Limits.{Limits}
 use Rattle.fcp_model.specs.declared.run.Control.{Control}
 use Rattle.fcp_model.specs.Programs.{Program}
-use Rattle.fcp_model.specs.States.{Process, Mode, is_open, is_suspended}
+use Rattle.fcp_model.specs.States.{Process, Mode, is_suspended}
 use Rattle.fcp_model.specs.Decisions.{Decision, decide}
 use Rattle.fcp_model.specs.Events.{Event, event_of}
 use Rattle.fcp_model.specs.OneWorker.{Schedule, ends, passes, makes, is_over, is_due, control_ruling, after_event, front_ruling, queue_ruling, ruling}

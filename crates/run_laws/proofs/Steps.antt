@@ -1,5 +1,5 @@
 -- What a commit, a hang, a pass and a fail of the front make of where the run stands, and when it ends.
-use Rattle.std.proofs.Common.{◌≡◌, ◌⊎◌, ℕ, zero, suc, ◌+◌, ◌-◌, ◌<◌, ◌≤◌, Bool, true, false, cond, not, List, [], ◌∷◌, ◌++◌, length, map, Option, Some, None, refl, sym, ap, ◌∙◌, subst, inl, inr, append-nil, arith}
+use Rattle.std.proofs.Common.{◌≡◌, ◌⊎◌, ℕ, suc, ◌+◌, ◌<◌, ◌≤◌, Bool, true, false, cond, not, List, [], ◌∷◌, ◌++◌, length, map, Some, refl, sym, ap, ◌∙◌, subst, inl, inr, append-nil, arith}
 use Rattle.std.specs.Prelude.{filter, option_map, nat_le, ◌||◌}
 use Rattle.std.proofs.lemmas.List.{length-map}
 use Rattle.std.proofs.lemmas.Bool.Decides.{nat_tests}
@@ -7,15 +7,13 @@ use Rattle.fcp_model.specs.declared.run.Proc.{Proc}
 use Rattle.fcp_model.specs.declared.run.Entry.{Entry}
 use Rattle.fcp_model.specs.declared.run.Entry.TheVariants.{Commit, Hang, Fail}
 use Rattle.fcp_model.specs.declared.run.Limits.{Limits}
-use Rattle.fcp_model.specs.Places.{Variable, is_older_process, places_among}
-use Rattle.fcp_model.specs.Terms.{Bindings}
+use Rattle.fcp_model.specs.Places.{is_older_process, places_among}
 use Rattle.fcp_model.specs.Programs.{Program}
 use Rattle.fcp_model.specs.Decisions.{Decision, commits, decides_fail, waits_on, decide}
 use Rattle.fcp_model.specs.Cells.{clause_used}
-use Rattle.fcp_model.specs.States.{Process, State, waiting, is_running, is_failed, process_named, ready}
+use Rattle.fcp_model.specs.States.{Process, State, waiting, is_running, process_named, ready}
 use Rattle.fcp_model.specs.Events.{Event, event_of, is_woken, made_ready}
 use Rattle.fcp_model.specs.Bounds.{is_commit, one}
-use Rattle.fcp_model.specs.LawfulStates.{IsOrdered}
 use Rattle.fcp_model.specs.OneWorker.{Schedule, ends, makes, passes, after_event, front_ruling, queue_ruling, ruling, begin, Leads, IsOneWorkerRun}
 use Rattle.fcp_laws.specs.Schedules.{IsSoundSchedule}
 use Rattle.fcp_laws.specs.WaitingProcesses.{waiting_of, with_process}
@@ -26,7 +24,7 @@ use Rattle.heap_words.specs.Heaps.{IsHeap, inside_at}
 use Rattle.word_states.specs.Words.{Words, HasAll}
 use Rattle.word_states.specs.Standing.{Book}
 use Rattle.word_states.specs.Going.{Move, MayGo, GoesOn, AllAt}
-use Rattle.run_laws.specs.Running.{Counts, IsPlainSchedule, StandsAt, IsFront, IsOfFront, FailedAt, after_commit, after_hang, after_pass}
+use Rattle.run_laws.specs.Running.{Counts, StandsAt, IsFront, IsOfFront, FailedAt, after_commit, after_hang, after_pass}
 use Rattle.run_laws.proofs.Fronts.{HasFront, front_of, none_there, all_long, all_append, front_name, IsMadeBy, next_is, other_names, ready_behind, stay_behind}
 use Rattle.run_laws.proofs.RuledFronts.{by_queue, front_ruled, front_passes, front_makes}
 
@@ -135,8 +133,8 @@ module _ (m : Program) (limits : Limits) (from : State) (vars : ℕ) (ws rest : 
       (omega (arith, f.commits, r.commits)) (omega (arith, f.moves, r.moves)) (omega (arith, f.passed, r.passed, length_is)) n d e
 
   module _ (w' : Words) (g : GoesOn m v book at.state w') where
-    pub made : IsMadeBy g.goes.steps m at.state front.process v.entry g.goes.event
-    made =
+    pub made_by : IsMadeBy g.goes.steps m at.state front.process v.entry g.goes.event
+    made_by =
         next_is g.goes.steps m at.state v.entry f.mover front.process g.goes.event f.is_move
         (ap (process_named at.state.processes) (front_name v ws p rest c book at.state f r.stands front.process front.at_front) ∙ found.0)
         g.goes.legal
@@ -146,15 +144,15 @@ module _ (m : Program) (limits : Limits) (from : State) (vars : ℕ) (ws rest : 
       process = front.process;
       behind = front.behind;
       queue = front.queue;
-      decision = made.decision;
-      decided = (g.goes.steps, made.decided);
-      is = made.is;
-      has = made.has;
+      decision = made_by.decision;
+      decided = (g.goes.steps, made_by.decided);
+      is = made_by.is;
+      has = made_by.has;
     }
 
     ruled_so : ruling g.goes.steps m limits at ≡ Some (front_ruling limits at front.process front.behind g.goes.event)
-    ruled_so = ruled g.goes.steps made.decision made.decided
-        ∙ ap (λ (x : Event). Some (front_ruling limits at front.process front.behind x)) (sym made.is)
+    ruled_so = ruled g.goes.steps made_by.decision made_by.decided
+        ∙ ap (λ (x : Event). Some (front_ruling limits at front.process front.behind x)) (sym made_by.is)
 
     leads_on : v.cells ≤ c.cells
         → Leads m limits (begin from []) (evs ++ g.goes.event ∷ []) (after_event at front.behind g.goes.event)
@@ -196,8 +194,8 @@ module _ (m : Program) (limits : Limits) (from : State) (vars : ℕ) (ws rest : 
     -- the run ends with a fail
     pub fails_there : (q : Proc) → v.entry ≡ Fail q → FailedAt m limits from (evs ++ g.goes.event ∷ []) at.state c
     fails_there q is_fail =
-        subst (λ (x : Event). FailedAt m limits from (evs ++ x ∷ []) at.state c) (sym made.is)
-        (go made.decision made.decided (sym (ap (λ (x : Event). x.entry) made.is) ∙ (made.has ∙ is_fail)))
+        subst (λ (x : Event). FailedAt m limits from (evs ++ x ∷ []) at.state c) (sym made_by.is)
+        (go made_by.decision made_by.decided (sym (ap (λ (x : Event). x.entry) made_by.is) ∙ (made_by.has ∙ is_fail)))
       where
         go : (d : Decision) → decide g.goes.steps m at.state.bound front.process.goal ≡ Some d
             → (event_of m at.state front.process d).entry ≡ Fail q
@@ -230,7 +228,7 @@ module _ (m : Program) (limits : Limits) (from : State) (vars : ℕ) (ws rest : 
     to = after_event at front.behind ev
 
     by : IsMadeBy g.goes.steps m at.state front.process v.entry ev
-    by = made (inside_at ws') g
+    by = made_by (inside_at ws') g
 
     woken_count : length v.woken ≡ length ev.woken
     woken_count = all_long g.goes.book ev.after v.woken (map made_ready ev.woken) g.woken ∙ length-map ev.woken made_ready

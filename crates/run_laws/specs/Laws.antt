@@ -10,8 +10,8 @@ use Rattle.fcp_model.specs.OneWorker.{Schedule, IsOneWorkerRun}
 use Rattle.heap_words.specs.Heaps.{IsHeap, inside_at}
 use Rattle.word_states.specs.Words.{Words, HasAll}
 use Rattle.word_states.specs.Standing.{Book}
-use Rattle.word_states.specs.Going.{Move, MayGo, GoesOn}
-use Rattle.run_laws.specs.Running.{Counts, StandsAt, IsFront, IsOfFront, FailedAt, after_commit, after_hang, after_pass}
+use Rattle.word_states.specs.Going.{Move, MayGo, GoesOn, ArePlaces}
+use Rattle.run_laws.specs.Running.{Counts, StandsAt, IsFront, IsOfFront, FailedAt, BindsNew, WaitsByAge, after_commit, after_hang, after_pass}
 
 -- where a run stands, a move that found what it read may go
 abbrev pub AFoundMoveMayGo : Type 0
@@ -59,3 +59,17 @@ abbrev pub ALimitEnds : Type 0
 ALimitEnds = (m : Program) (limits : Limits) (from : State) (vars : ℕ) (ws queue : List ℕ) (c : Counts) (evs : List Event)
     (at : Schedule) (book : Book) → StandsAt m limits from vars ws queue c evs at book
     → ((queue ≡ []) ⊎ (c.commits ≡ 0)) ⊎ ((c.moves ≡ 0) ⊎ (length queue ≤ c.passed)) → IsOneWorkerRun m limits from [] evs at
+
+-- what a commit of the front binds, and for what a hang of the front waits
+abbrev pub ACommitBindsNew : Type 0
+ACommitBindsNew = (m : Program) (limits : Limits) (from : State) (vars : ℕ) (ws rest : List ℕ) (p : ℕ) (c : Counts) (evs : List Event)
+    (at : Schedule) (book : Book) (v : Move) (w' : Words) (q : Proc) (k : ℕ) → StandsAt m limits from vars ws (p ∷ rest) c evs at book
+    → IsFront v ws p rest c → (g : GoesOn m v book at.state w') → v.entry ≡ Commit q k
+    → BindsNew g.goes.book.places v.bound g.goes.event × (g.goes.event.after.entries ≡ c.entries + 1) × (g.goes.event.entry ≡ Commit q k)
+
+abbrev pub AHangWaitsByAge : Type 0
+AHangWaitsByAge = (m : Program) (limits : Limits) (from : State) (vars : ℕ) (ws rest : List ℕ) (p : ℕ) (c : Counts) (evs : List Event)
+    (at : Schedule) (book : Book) (v : Move) (w' : Words) (q : Proc) → StandsAt m limits from vars ws (p ∷ rest) c evs at book
+    → IsFront v ws p rest c → (g : GoesOn m v book at.state w') → v.entry ≡ Hang q
+    → WaitsByAge g.goes.event × ArePlaces g.goes.book.places v.waits g.goes.event.waits_for
+        × (g.goes.event.after.entries ≡ c.entries + 1) × (g.goes.event.entry ≡ Hang q)

@@ -1,10 +1,12 @@
 -- Where the run of one worker stands, by words.
-use Rattle.std.specs.Prelude.{◌≡◌, ℕ, ◌+◌, ◌-◌, ◌*◌, ◌<◌, ◌≤◌, List, [], ◌∷◌, ◌++◌, length, pos}
+use Rattle.std.specs.Prelude.{◌≡◌, ℕ, ◌+◌, ◌-◌, ◌*◌, ◌<◌, ◌≤◌, List, [], ◌∷◌, length, pos, slice_get, Some}
 use Rattle.fcp_model.specs.declared.run.Proc.{Proc}
 use Rattle.fcp_model.specs.declared.run.Entry.{Entry}
 use Rattle.fcp_model.specs.declared.run.Entry.TheVariants.{Commit, Hang, Fail}
 use Rattle.fcp_model.specs.declared.run.Limits.{Limits}
-use Rattle.fcp_model.specs.Places.{place}
+use Rattle.fcp_model.specs.declared.run.Place.{Place}
+use Rattle.fcp_model.specs.Places.{Variable, made, place, places_among}
+use Rattle.fcp_model.specs.Terms.{Term, find, rename, settle}
 use Rattle.fcp_model.specs.Programs.{Program}
 use Rattle.fcp_model.specs.Decisions.{Decision, Decides}
 use Rattle.fcp_model.specs.States.{Process, State, is_open, is_failed}
@@ -15,7 +17,9 @@ use Rattle.fcp_laws.specs.WaitingProcesses.{waiting_of}
 use Rattle.heap_words.specs.Heaps.{IsHeap, inside_at}
 use Rattle.heap_words.specs.declared.cell.Cell.TheVariants.{Small}
 use Rattle.word_states.specs.Words.{At}
-use Rattle.word_states.specs.Standing.{Book, StandsFor, PlaceAt, ProcessAt, name_code}
+use Rattle.word_states.specs.Standing.{Book, StandsFor, PlaceAt, name_code}
+use Rattle.word_states.specs.Denoting.{Addresses}
+use Rattle.word_states.specs.Trials.{places_bound, AreAt}
 use Rattle.word_states.specs.Going.{Move, AllAt}
 
 -- an open run without controls
@@ -114,3 +118,16 @@ pub record FailedAt (m : Program) (limits : Limits) (from : State) (evs : List E
   pub controls : last.controls ≡ []
   pub bound : last.state.bound ≡ before.bound
   pub entries : last.state.entries ≡ c.entries + 1
+
+-- What a commit binds of the state's places: each once, and in the state after it to what the try bound it to. The places are at these
+-- addresses.
+pub record BindsNew (vs : Addresses) (bound : List ℕ) (ev : Event) : Type 0 where
+  pub places : AreAt vs bound (places_bound ev.bindings)
+  pub settled : (j : Place) (t : Term Variable) → find ev.bindings (made j) ≡ Some t
+      → find ev.after.bound (made j) ≡ Some (rename (settle ev.after.entries) t)
+  pub once : (j : Place) (t u : Term Variable) (i k : ℕ) → slice_get ev.bindings i ≡ Some (made j, t)
+      → slice_get ev.bindings k ≡ Some (made j, u) → i ≡ k
+
+-- and where the event is a hang, it waits for the places among some that were read
+abbrev pub WaitsByAge : Event → Type 0
+WaitsByAge ev = (reads : List Variable) × (ev.waits_for ≡ places_among reads)

@@ -2,7 +2,7 @@
 //! contract is the law.
 #![tactic(auto)]
 
-ghost use Rattle.run_laws.specs.Laws.{AFoundMoveMayGo, AnEventIsOfTheFront, ACommitLeadsOn, AHangLeadsOn, APassLeadsOn, AFailEnds, ALimitEnds};
+ghost use Rattle.run_laws.specs.Laws.{AFoundMoveMayGo, AnEventIsOfTheFront, ACommitLeadsOn, AHangLeadsOn, APassLeadsOn, AFailEnds, ALimitEnds, ACommitBindsNew, AHangWaitsByAge};
 
 /// A move of the front that found what it read may go, and its event is the one that is decided for the front.
 pub fn front_moves()
@@ -21,4 +21,10 @@ pub fn leading_moves()
 pub fn ends()
     ensures fail { AFailEnds }
     ensures limit { ALimitEnds }
+{}
+
+/// What a commit of the front binds, and for what a hang of the front waits.
+pub fn lines_of_moves()
+    ensures commit { ACommitBindsNew }
+    ensures hang { AHangWaitsByAge }
 {}
