@@ -1,4 +1,6 @@
+pub mod CountedRuns
 pub mod Fronts
+pub mod KnownWords
 pub mod MoveLines
 pub mod NewPlaces
 pub mod RuledFronts

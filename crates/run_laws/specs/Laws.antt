@@ -1,17 +1,23 @@
 -- What a ruling makes of where the run of one worker stands.
-use Rattle.std.specs.Prelude.{◌≡◌, ◌⊎◌, ℕ, ◌+◌, ◌<◌, ◌≤◌, List, [], ◌∷◌, ◌++◌, length}
+use Rattle.std.specs.Prelude.{◌≡◌, ◌⊎◌, ℕ, ◌+◌, ◌*◌, ◌<◌, filter, ◌≤◌, List, [], ◌∷◌, ◌++◌, length}
+use Rattle.fcp_model.specs.declared.run.Place.{Place}
 use Rattle.fcp_model.specs.declared.run.Proc.{Proc}
 use Rattle.fcp_model.specs.declared.run.Entry.TheVariants.{Commit, Hang, Fail}
 use Rattle.fcp_model.specs.declared.run.Limits.{Limits}
-use Rattle.fcp_model.specs.Programs.{Program}
-use Rattle.fcp_model.specs.States.{State}
+use Rattle.fcp_model.specs.Places.{place}
+use Rattle.fcp_model.specs.Programs.{Goal, Program}
+use Rattle.fcp_model.specs.States.{Process, State, is_ready, start}
 use Rattle.fcp_model.specs.Events.{Event}
-use Rattle.fcp_model.specs.OneWorker.{Schedule, IsOneWorkerRun}
+use Rattle.fcp_model.specs.OneWorker.{Schedule, IsOneWorkerRun, begin}
+use Rattle.fcp_laws.specs.Endings.{outcome_at}
 use Rattle.heap_words.specs.Heaps.{IsHeap, inside_at}
-use Rattle.word_states.specs.Words.{Words, HasAll}
-use Rattle.word_states.specs.Standing.{Book}
-use Rattle.word_states.specs.Going.{Move, MayGo, GoesOn, ArePlaces}
-use Rattle.run_laws.specs.Running.{Counts, StandsAt, IsFront, IsOfFront, FailedAt, BindsNew, WaitsByAge, after_commit, after_hang, after_pass}
+use Rattle.heap_words.specs.declared.cell.Cell.TheVariants.{Status}
+use Rattle.heap_words.specs.declared.cell.Stand.TheVariants.{Ready}
+use Rattle.word_states.specs.Words.{Words, HasAll, At, IsIn}
+use Rattle.word_states.specs.Standing.{Book, StandsFor, PlaceAt}
+use Rattle.word_states.specs.Trials.{AreAt}
+use Rattle.word_states.specs.Going.{Move, MayGo, GoesOn, ArePlaces, AllAt}
+use Rattle.run_laws.specs.Running.{Counts, IsPlaceInUse, IsProcessInUse, first_counts, outcome_by, StandsAt, IsFront, IsOfFront, FailedAt, BindsNew, WaitsByAge, after_commit, after_hang, after_pass}
 
 -- where a run stands, a move that found what it read may go
 abbrev pub AFoundMoveMayGo : Type 0
@@ -73,3 +79,30 @@ AHangWaitsByAge = (m : Program) (limits : Limits) (from : State) (vars : ℕ) (w
     → IsFront v ws p rest c → (g : GoesOn m v book at.state w') → v.entry ≡ Hang q
     → WaitsByAge g.goes.event × ArePlaces g.goes.book.places v.waits g.goes.event.waits_for
         × (g.goes.event.after.entries ≡ c.entries + 1) × (g.goes.event.entry ≡ Hang q)
+
+-- in words that stand for a goal's first state the run stands at its beginning
+abbrev pub ABeginningStands : Type 0
+ABeginningStands = (m : Program) (limits : Limits) (vars : ℕ) (gs : List (Goal ℕ)) (ws queue : List ℕ) (book : Book) → IsHeap ws
+    → StandsFor book (inside_at ws) (start vars gs)
+    → AllAt book (start vars gs) queue (filter (λ p. is_ready p.status) (start vars gs).processes)
+    → ((k : ℕ) → 1 ≤ k → k ≤ vars → PlaceAt book (place 0 k) (2 * k))
+    → StandsAt m limits (start vars gs) vars ws queue (first_counts limits) [] (begin (start vars gs) []) book
+
+-- the outcome that is read off a schedule is that of the queue's addresses and the counts
+abbrev pub AnOutcomeIsCounted : Type 0
+AnOutcomeIsCounted = (m : Program) (limits : Limits) (from : State) (vars : ℕ) (ws queue : List ℕ) (c : Counts) (evs : List Event)
+    (at : Schedule) (book : Book) → StandsAt m limits from vars ws queue c evs at book → outcome_at limits at ≡ outcome_by queue c
+
+-- where the run stands, the front of the queue has the status Ready
+abbrev pub AFrontIsReady : Type 0
+AFrontIsReady = (m : Program) (limits : Limits) (from : State) (vars : ℕ) (ws rest : List ℕ) (p : ℕ) (c : Counts) (evs : List Event)
+    (at : Schedule) (book : Book) → StandsAt m limits from vars ws (p ∷ rest) c evs at book → At (inside_at ws) p (Status Ready)
+
+-- the words of places and the names of processes are in use
+abbrev pub PlacesAreInUse : Type 0
+PlacesAreInUse = (ws : List ℕ) (book : Book) (s : State) (as' : List ℕ) (js : List Place) → StandsFor book (inside_at ws) s
+    → AreAt book.places as' js → (a : ℕ) → IsIn a as' → IsPlaceInUse ws a
+
+abbrev pub ProcessesAreInUse : Type 0
+ProcessesAreInUse = (ws : List ℕ) (book : Book) (s : State) (as' : List ℕ) (xs : List Process) → IsHeap ws
+    → StandsFor book (inside_at ws) s → AllAt book s as' xs → (q : ℕ) → IsIn q as' → IsProcessInUse ws q

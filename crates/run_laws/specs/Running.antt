@@ -1,9 +1,11 @@
 -- Where the run of one worker stands, by words.
-use Rattle.std.specs.Prelude.{◌≡◌, ℕ, ◌+◌, ◌-◌, ◌*◌, ◌<◌, ◌≤◌, List, [], ◌∷◌, length, pos, slice_get, Some}
+use Rattle.std.specs.Prelude.{◌≡◌, true, ℕ, ◌+◌, ◌-◌, ◌*◌, ◌<◌, ◌≤◌, List, [], ◌∷◌, length, pos, slice_get, Some, ◌||◌, nat_eq, if◌then◌else◌}
 use Rattle.fcp_model.specs.declared.run.Proc.{Proc}
 use Rattle.fcp_model.specs.declared.run.Entry.{Entry}
 use Rattle.fcp_model.specs.declared.run.Entry.TheVariants.{Commit, Hang, Fail}
 use Rattle.fcp_model.specs.declared.run.Limits.{Limits}
+use Rattle.fcp_model.specs.declared.run.Outcome.{Outcome}
+use Rattle.fcp_model.specs.declared.run.Outcome.TheVariants.{Terminated, Suspended, Budget, Full}
 use Rattle.fcp_model.specs.declared.run.Place.{Place}
 use Rattle.fcp_model.specs.Places.{Variable, made, place, places_among}
 use Rattle.fcp_model.specs.Terms.{Term, find, rename, settle}
@@ -14,7 +16,7 @@ use Rattle.fcp_model.specs.LawfulStates.{IsOrdered}
 use Rattle.fcp_model.specs.Events.{Event, event_of}
 use Rattle.fcp_model.specs.OneWorker.{Schedule, Leads, IsOneWorkerRun, begin}
 use Rattle.fcp_laws.specs.WaitingProcesses.{waiting_of}
-use Rattle.heap_words.specs.Heaps.{IsHeap, inside_at}
+use Rattle.heap_words.specs.Heaps.{IsHeap, is_inside, inside_at}
 use Rattle.heap_words.specs.declared.cell.Cell.TheVariants.{Small}
 use Rattle.word_states.specs.Words.{At}
 use Rattle.word_states.specs.Standing.{Book, StandsFor, PlaceAt, name_code}
@@ -110,6 +112,22 @@ after_hang c cells = record {
 abbrev pub after_pass : Counts → Counts
 after_pass c = record c { passed = c.passed + 1 }
 
+-- the counts before the first entry
+abbrev pub first_counts : Limits → Counts
+first_counts limits = record {
+  passed = 0;
+  asleep = 0;
+  entries = 0;
+  commits = limits.commits;
+  moves = limits.moves;
+  cells = limits.cells;
+}
+
+-- the outcome of an open run that ended, by the addresses of its queue and the counts
+abbrev pub outcome_by : List ℕ → Counts → Outcome
+outcome_by [] c = if nat_eq c.asleep 0 then Terminated else Suspended
+outcome_by (p ∷ rest) c = if nat_eq c.commits 0 || nat_eq c.moves 0 then Budget else Full
+
 -- a run has ended with a fail: its last schedule, which has the bindings of the state before the fail
 pub record FailedAt (m : Program) (limits : Limits) (from : State) (evs : List Event) (before : State) (c : Counts) : Type 0 where
   pub last : Schedule
@@ -131,3 +149,11 @@ pub record BindsNew (vs : Addresses) (bound : List ℕ) (ev : Event) : Type 0 wh
 -- and where the event is a hang, it waits for the places among some that were read
 abbrev pub WaitsByAge : Event → Type 0
 WaitsByAge ev = (reads : List Variable) × (ev.waits_for ≡ places_among reads)
+
+-- the word of a place and its name are in use
+abbrev pub IsPlaceInUse : List ℕ → ℕ → Type 0
+IsPlaceInUse ws a = (0 < a) × (is_inside ws a ≡ true) × (is_inside ws (a - 1) ≡ true)
+
+-- the name of a process is in use
+abbrev pub IsProcessInUse : List ℕ → ℕ → Type 0
+IsProcessInUse ws q = (q + 1 < 4294967296) × (is_inside ws (q + 1) ≡ true)

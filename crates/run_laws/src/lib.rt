@@ -2,7 +2,7 @@
 //! contract is the law.
 #![tactic(auto)]
 
-ghost use Rattle.run_laws.specs.Laws.{AFoundMoveMayGo, AnEventIsOfTheFront, ACommitLeadsOn, AHangLeadsOn, APassLeadsOn, AFailEnds, ALimitEnds, ACommitBindsNew, AHangWaitsByAge};
+ghost use Rattle.run_laws.specs.Laws.{AFoundMoveMayGo, AnEventIsOfTheFront, ACommitLeadsOn, AHangLeadsOn, APassLeadsOn, AFailEnds, ALimitEnds, ACommitBindsNew, AHangWaitsByAge, ABeginningStands, AnOutcomeIsCounted, AFrontIsReady, PlacesAreInUse, ProcessesAreInUse};
 
 /// A move of the front that found what it read may go, and its event is the one that is decided for the front.
 pub fn front_moves()
@@ -27,4 +27,17 @@ pub fn ends()
 pub fn lines_of_moves()
     ensures commit { ACommitBindsNew }
     ensures hang { AHangWaitsByAge }
+{}
+
+/// Where a run begins, and the outcome with which it ends.
+pub fn counts()
+    ensures first { ABeginningStands }
+    ensures outcome { AnOutcomeIsCounted }
+{}
+
+/// Words in use, where words stand for a state.
+pub fn words_in_use()
+    ensures front { AFrontIsReady }
+    ensures places { PlacesAreInUse }
+    ensures processes { ProcessesAreInUse }
 {}
