@@ -1,6 +1,6 @@
 -- The counts before the first entry, and the outcome by the counts.
-use Rattle.std.proofs.Common.{◌≡◌, ℕ, suc, ◌+◌, ◌*◌, ◌≤◌, Bool, true, false, cond, not, List, [], ◌∷◌, length, map, refl, sym, ap, ap₂, ◌∙◌, subst, arith}
-use Rattle.std.specs.Prelude.{filter, nat_le, nat_eq, ◌||◌, if◌then◌else◌}
+use Rattle.std.proofs.Common.{◌≡◌, ℕ, suc, ◌+◌, ◌*◌, ◌≤◌, Bool, true, false, cond, not, List, [], ◌∷◌, length, map, refl, sym, ap, ap₂, ◌∙◌, arith}
+use Rattle.std.specs.Prelude.{filter, nat_le, nat_eq, ◌||◌}
 use Rattle.std.specs.List.{list_any}
 use Rattle.std.proofs.lemmas.Bool.Decides.{nat_tests}
 use Rattle.fcp_model.specs.declared.run.Limits.{Limits}
@@ -11,7 +11,7 @@ use Rattle.fcp_model.specs.Programs.{Goal, Program, rename_goal}
 use Rattle.fcp_model.specs.States.{Process, State, Mode, is_open, is_held, is_failed, is_aborted, is_ready, start, processes_of}
 use Rattle.fcp_model.specs.Events.{Event}
 use Rattle.fcp_model.specs.OneWorker.{Schedule, begin}
-use Rattle.fcp_laws.specs.Endings.{open_outcome, outcome_at}
+use Rattle.fcp_laws.specs.Endings.{outcome_at}
 use Rattle.fcp_laws.specs.WaitingProcesses.{is_waiting, waiting_of}
 use Rattle.fcp_laws.proofs.Leading.{led_nowhere}
 use Rattle.fcp_laws.proofs.SoundSchedules.{start_ordered}

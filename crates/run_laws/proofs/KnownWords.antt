@@ -1,5 +1,5 @@
 -- Addresses in use: those of places, of processes and of the front.
-use Rattle.std.proofs.Common.{◌≡◌, ℕ, ◌+◌, ◌-◌, ◌<◌, ◌≤◌, true, List, [], ◌∷◌, Some, sym, ap, ◌∙◌, subst, ⊎_elim, arith}
+use Rattle.std.proofs.Common.{◌≡◌, ℕ, ◌+◌, ◌-◌, List, [], ◌∷◌, subst, ⊎_elim, arith}
 use Rattle.fcp_model.specs.declared.run.Place.{Place}
 use Rattle.fcp_model.specs.declared.run.Limits.{Limits}
 use Rattle.fcp_model.specs.Places.{made}
@@ -7,12 +7,11 @@ use Rattle.fcp_model.specs.Programs.{Program}
 use Rattle.fcp_model.specs.States.{Process, State, Status, ready}
 use Rattle.fcp_model.specs.Events.{Event}
 use Rattle.fcp_model.specs.OneWorker.{Schedule}
-use Rattle.heap_words.specs.Heaps.{IsHeap, is_inside, inside_at}
+use Rattle.heap_words.specs.Heaps.{IsHeap, inside_at}
 use Rattle.heap_words.specs.HeapLaws.{inside_known, inside_below}
 use Rattle.heap_words.specs.declared.cell.Cell.TheVariants as cell
 use Rattle.heap_words.specs.declared.cell.Stand.TheVariants as stand
 use Rattle.word_states.specs.Words.{At, IsIn}
-use Rattle.word_states.specs.Denoting.{Addresses, Listed}
 use Rattle.word_states.specs.Standing.{Book, StandsFor, StatusSays, PlaceAt, ProcessAt}
 use Rattle.word_states.specs.Trials.{AreAt}
 use Rattle.word_states.specs.Going.{AllAt}

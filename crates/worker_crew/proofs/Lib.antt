@@ -1,0 +1,2 @@
+pub mod EngineMeasure
+pub mod Reporting
