@@ -1,4 +1,5 @@
 pub mod CountedRuns
+pub mod FoundMoves
 pub mod Fronts
 pub mod KnownWords
 pub mod MoveLines

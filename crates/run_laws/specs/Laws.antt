@@ -13,11 +13,11 @@ use Rattle.fcp_laws.specs.Endings.{outcome_at}
 use Rattle.heap_words.specs.Heaps.{IsHeap, inside_at}
 use Rattle.heap_words.specs.declared.cell.Cell.TheVariants.{Status}
 use Rattle.heap_words.specs.declared.cell.Stand.TheVariants.{Ready}
-use Rattle.word_states.specs.Words.{Words, HasAll, At, IsIn}
+use Rattle.word_states.specs.Words.{Words, HasAll, At, IsIn, over}
 use Rattle.word_states.specs.Standing.{Book, StandsFor, PlaceAt}
 use Rattle.word_states.specs.Trials.{AreAt}
 use Rattle.word_states.specs.Going.{Move, MayGo, GoesOn, ArePlaces, AllAt}
-use Rattle.run_laws.specs.Running.{Counts, IsPlaceInUse, IsProcessInUse, first_counts, outcome_by, StandsAt, IsFront, IsOfFront, FailedAt, BindsNew, WaitsByAge, after_commit, after_hang, after_pass}
+use Rattle.run_laws.specs.Running.{Counts, IsFoundMove, IsPlaceInUse, IsProcessInUse, first_counts, outcome_by, StandsAt, IsFront, IsOfFront, FailedAt, BindsNew, WaitsByAge, after_commit, after_hang, after_pass}
 
 -- where a run stands, a move that found what it read may go
 abbrev pub AFoundMoveMayGo : Type 0
@@ -106,3 +106,10 @@ PlacesAreInUse = (ws : List ℕ) (book : Book) (s : State) (as' : List ℕ) (js 
 abbrev pub ProcessesAreInUse : Type 0
 ProcessesAreInUse = (ws : List ℕ) (book : Book) (s : State) (as' : List ℕ) (xs : List Process) → IsHeap ws
     → StandsFor book (inside_at ws) s → AllAt book s as' xs → (q : ℕ) → IsIn q as' → IsProcessInUse ws q
+
+-- where the run stands, a move that was found for the front is one of the front, and goes on in the words that it writes
+abbrev pub AFoundMoveGoesOn : Type 0
+AFoundMoveGoesOn = (m : Program) (limits : Limits) (from : State) (vars : ℕ) (ws rest : List ℕ) (p : ℕ) (c : Counts) (evs : List Event)
+    (at : Schedule) (book : Book) (v : Move) → StandsAt m limits from vars ws (p ∷ rest) c evs at book → limits.moves ≤ 1000000
+    → IsFoundMove m v ws p → 0 < c.commits → 0 < c.moves → c.passed < length (p ∷ rest)
+    → IsFront v ws p rest c × GoesOn m v book at.state (over (v.writes (c.entries + 1)) (inside_at ws))

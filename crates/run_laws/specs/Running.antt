@@ -18,11 +18,12 @@ use Rattle.fcp_model.specs.OneWorker.{Schedule, Leads, IsOneWorkerRun, begin}
 use Rattle.fcp_laws.specs.WaitingProcesses.{waiting_of}
 use Rattle.heap_words.specs.Heaps.{IsHeap, is_inside, inside_at}
 use Rattle.heap_words.specs.declared.cell.Cell.TheVariants.{Small}
-use Rattle.word_states.specs.Words.{At}
+use Rattle.heap_words.specs.Trails.{word_at}
+use Rattle.word_states.specs.Words.{At, HasAll}
 use Rattle.word_states.specs.Standing.{Book, StandsFor, PlaceAt, name_code}
 use Rattle.word_states.specs.Denoting.{Addresses}
 use Rattle.word_states.specs.Trials.{places_bound, AreAt}
-use Rattle.word_states.specs.Going.{Move, AllAt}
+use Rattle.word_states.specs.Going.{Move, Fits, AllAt}
 
 -- an open run without controls
 pub record IsPlainSchedule (at : Schedule) : Type 0 where
@@ -157,3 +158,13 @@ IsPlaceInUse ws a = (0 < a) × (is_inside ws a ≡ true) × (is_inside ws (a - 1
 -- the name of a process is in use
 abbrev pub IsProcessInUse : List ℕ → ℕ → Type 0
 IsProcessInUse ws q = (q + 1 < 4294967296) × (is_inside ws (q + 1) ≡ true)
+
+-- The words have what the move read, which names the process at p, and it fits the program.
+pub record IsFoundMove (m : Program) (v : Move) (ws : List ℕ) (p : ℕ) : Type 0 where
+  pub address : v.process ≡ p
+  pub fits : Fits m v
+  pub has : HasAll v.reads (inside_at ws)
+  pub mover : Proc
+  pub is_move : IsMoveBy v.entry mover
+  pub small : mover.number < 268435456
+  pub name : At (word_at v.reads) (p + 1) (Small (pos (name_code mover.entry mover.number)))

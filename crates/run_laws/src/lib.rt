@@ -2,11 +2,12 @@
 //! contract is the law.
 #![tactic(auto)]
 
-ghost use Rattle.run_laws.specs.Laws.{AFoundMoveMayGo, AnEventIsOfTheFront, ACommitLeadsOn, AHangLeadsOn, APassLeadsOn, AFailEnds, ALimitEnds, ACommitBindsNew, AHangWaitsByAge, ABeginningStands, AnOutcomeIsCounted, AFrontIsReady, PlacesAreInUse, ProcessesAreInUse};
+ghost use Rattle.run_laws.specs.Laws.{AFoundMoveMayGo, AFoundMoveGoesOn, AnEventIsOfTheFront, ACommitLeadsOn, AHangLeadsOn, APassLeadsOn, AFailEnds, ALimitEnds, ACommitBindsNew, AHangWaitsByAge, ABeginningStands, AnOutcomeIsCounted, AFrontIsReady, PlacesAreInUse, ProcessesAreInUse};
 
 /// A move of the front that found what it read may go, and its event is the one that is decided for the front.
 pub fn front_moves()
     ensures may { AFoundMoveMayGo }
+    ensures goes { AFoundMoveGoesOn }
     ensures event { AnEventIsOfTheFront }
 {}
 

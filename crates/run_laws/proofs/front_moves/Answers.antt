@@ -1,4 +1,5 @@
 -- The laws, proved beside the definitions.
+use Rattle.run_laws.proofs.FoundMoves.{goes_on}
 use Rattle.run_laws.proofs.Steps.{may_go, of_front}
 use Rattle.run_laws.proofs.front_moves.Goals as goal
 
@@ -7,3 +8,6 @@ returns-clause-may c = λ m limits from vars ws queue c evs at book v r few left
 
 pub returns-clause-event : goal.returns-clause-event
 returns-clause-event c = λ m limits from vars ws rest p c evs at book v w' r f g. of_front m limits from vars ws rest p c evs at book v r f w' g
+
+pub returns-clause-goes : goal.returns-clause-goes
+returns-clause-goes c = goes_on
