@@ -1,2 +1,3 @@
 pub mod EngineMeasure
+pub mod MadeTurns
 pub mod Reporting

@@ -73,6 +73,8 @@ pub record IsReached (t : Task) (front : List ℕ) (e : Engine) : Type 0 where
   pub at : Schedule
   pub book : Book
   pub rest : IsAtRest e.hall
+  pub log : length e.hall.log.items ≡ e.entries
+  pub few : e.asleep ≤ e.entries
   pub stands : StandsThere t front e events at book
   pub lines : AreLines t e.text.items events
 
@@ -167,3 +169,17 @@ pub record Passes (old new : Engine) (p : ℕ) : Type 0 where
   pub passed : new.passed ≡ old.passed + 1
   pub asleep : new.asleep ≡ old.asleep
   pub entries : new.entries ≡ old.entries
+
+-- commits, moves and processes that did not go to the back are left, where the front was taken from the queue
+pub record HasRoom (e : Engine) : Type 0 where
+  pub commits : 0 < e.hall.quota.commits
+  pub moves : 0 < e.hall.quota.moves
+  pub passed : e.passed < length e.queue.items + 1
+
+-- the engine after a turn: all but the hall and the planner is as it was
+pub record IsTurned (old mid : Engine) : Type 0 where
+  pub queue : mid.queue.items ≡ old.queue.items
+  pub text : mid.text.items ≡ old.text.items
+  pub passed : mid.passed ≡ old.passed
+  pub asleep : mid.asleep ≡ old.asleep
+  pub entries : mid.entries ≡ old.entries
