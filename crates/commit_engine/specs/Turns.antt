@@ -53,8 +53,9 @@ IsAlone (answer.Busy page) = false
 IsAlone (answer.Stale a x y) = false
 IsAlone _ = true
 
--- what the planner tells of the move: what it makes, wakes, binds and waits for
+-- what the planner tells of the move: its entry, and what it makes, wakes, binds and waits for
 pub record TellsMove (pl : Planner) (v : Move) : Type 0 where
+  pub entry : v.entry ≡ pl.entry
   pub children : v.children ≡ pl.children.items
   pub woken : v.woken ≡ pl.woken.items
   pub bound : v.bound ≡ pl.bound.items

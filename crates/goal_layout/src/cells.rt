@@ -101,7 +101,7 @@ fn item_list_cells(items: &[Item]) -> u32
 }
 
 /// The cells of a goal: two for each place, and those of its items.
-pub(crate) fn goal_cells(goal: &GoalText) -> u32
+pub fn goal_cells(goal: &GoalText) -> u32
     requires { length goal.now.names ≤ 250 }
     ensures { (m : Module) → result ≡ at_most (cells_of m goal.now) }
 {

@@ -11,4 +11,5 @@ mod places;
 mod processes;
 mod terms;
 
+pub use cells::goal_cells;
 pub use layout::{Laid, lay_goal};

@@ -5,6 +5,10 @@ ghost use Rattle.fcp_model.specs.ReportText.{goal_variables};
 ghost use Rattle.fcp_model.specs.Translation.{program_of, start_of};
 ghost use Rattle.goal_layout.specs.Goals.{MayBeLaid};
 
+use crate::engine::{Ruled, Task};
+use crate::report::{report_end, report_fail};
+use crate::starting::start;
+use clause_compiler::compile;
 use fcp_model::{Limits, Loaded, LoadedGoal, Names, NoMemory, Outcome};
 use std::alloc::Global;
 
@@ -32,5 +36,20 @@ pub fn run_goal(
     ensures { IfOk result (λ r. IsOneWorkerReport (program_of loaded.now) (start_of loaded.now goal.now.0) limits [] names.now
         (goal_variables goal.now.0.names) r.outcome r.text.items) }
 {
-    Err(NoMemory)
+    let code = compile(alloc, loaded)?;
+    let task = Task {
+        names,
+        loaded,
+        goal,
+        code: &code,
+        limits,
+    };
+    let mut engine = start(alloc, &task)?;
+    loop {
+        match engine.rule(&task)? {
+            Ruled::Makes | Ruled::Passes => {}
+            Ruled::Ends => return report_end(&task, engine),
+            Ruled::Fails => return report_fail(&task, engine),
+        }
+    }
 }

@@ -1,0 +1,44 @@
+//! What a ruling makes of where the run of one worker stands, by words that stand for its state. Each function does nothing: its
+//! contract is the law.
+#![tactic(auto)]
+
+ghost use Rattle.run_laws.specs.Laws.{AFoundMoveMayGo, AFoundMoveGoesOn, AnEventIsOfTheFront, ACommitLeadsOn, AHangLeadsOn, APassLeadsOn, AFailEnds, ALimitEnds, ACommitBindsNew, AHangWaitsByAge, ABeginningStands, AnOutcomeIsCounted, AFrontIsReady, PlacesAreInUse, ProcessesAreInUse};
+
+/// A move of the front that found what it read may go, and its event is the one that is decided for the front.
+pub fn front_moves()
+    ensures may { AFoundMoveMayGo }
+    ensures goes { AFoundMoveGoesOn }
+    ensures event { AnEventIsOfTheFront }
+{}
+
+/// A commit, a hang and a pass lead to where the run stands again.
+pub fn leading_moves()
+    ensures commit { ACommitLeadsOn }
+    ensures hang { AHangLeadsOn }
+    ensures pass { APassLeadsOn }
+{}
+
+/// The run ends with a fail, and at its limits.
+pub fn ends()
+    ensures fail { AFailEnds }
+    ensures limit { ALimitEnds }
+{}
+
+/// What a commit of the front binds, and for what a hang of the front waits.
+pub fn lines_of_moves()
+    ensures commit { ACommitBindsNew }
+    ensures hang { AHangWaitsByAge }
+{}
+
+/// Where a run begins, and the outcome with which it ends.
+pub fn counts()
+    ensures first { ABeginningStands }
+    ensures outcome { AnOutcomeIsCounted }
+{}
+
+/// Words in use, where words stand for a state.
+pub fn words_in_use()
+    ensures front { AFrontIsReady }
+    ensures places { PlacesAreInUse }
+    ensures processes { ProcessesAreInUse }
+{}

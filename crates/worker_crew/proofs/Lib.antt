@@ -1,0 +1,4 @@
+pub mod EngineMeasure
+pub mod MadeTurns
+pub mod Reporting
+pub mod UnmadeTurns
