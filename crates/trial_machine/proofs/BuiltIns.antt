@@ -22,8 +22,8 @@ use Rattle.safe_tries.specs.Stored.{IsStored}
 use Rattle.steady_tries.specs.Steady.{arguments_of}
 use Rattle.steady_tries.specs.Ends.{IsOfProgram}
 use Rattle.trial_machine.specs.declared.machine.Machine.{Machine}
-use Rattle.trial_machine.specs.declared.decide.Decided.{Decided}
-use Rattle.trial_machine.specs.declared.decide.Decided.TheVariants.{Fails}
+use Rattle.trial_machine.specs.declared.decide.Trial.{Trial}
+use Rattle.trial_machine.specs.declared.decide.Trial.TheVariants.{Fails}
 use Rattle.trial_machine.specs.declared.machine.Turn.{Turn}
 use Rattle.trial_machine.specs.declared.machine.Turn.TheVariants as turn
 use Rattle.trial_machine.specs.declared.run.Outcome.{Outcome}
@@ -128,14 +128,14 @@ has_two kept p n m c e = (n, c.count, omega (arith, e))
 pub none_decided : (m : Machine) (p : ℕ) → NoGoal m.trail.kept p → DecidesAll m p Fails
 none_decided m p h = record { says = λ prog w vs bound g t. absurd (h w vs bound g t); handed = tt }
 
-pub true_decided : (kept : WordList) (p n : ℕ) (old new : Machine) (d : Decided) → old.trail.kept ≡ kept → Calls kept p TRUE_PROCEDURE n
+pub true_decided : (kept : WordList) (p n : ℕ) (old new : Machine) (d : Trial) → old.trail.kept ≡ kept → Calls kept p TRUE_PROCEDURE n
     → Concludes (true_frame p) old new d → DecidesAll new p d
 true_decided kept p n old new d same c h = record {
   says = λ prog. h.says prog (true_of old.trail.kept p n (subst (λ k. Calls k p TRUE_PROCEDURE n) (sym same) c) old prog);
   handed = h.handed;
 }
 
-pub unify_decided : (p n : ℕ) (old new : Machine) (d : Decided) → Calls old.trail.kept p UNIFY_PROCEDURE n
+pub unify_decided : (p n : ℕ) (old new : Machine) (d : Trial) → Calls old.trail.kept p UNIFY_PROCEDURE n
     → Concludes (unify_frame p) old new d → DecidesAll new p d
 unify_decided p n old new d c h = record { says = λ prog. h.says prog (unify_of old.trail.kept p n c old prog); handed = h.handed }
 

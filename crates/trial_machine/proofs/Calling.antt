@@ -27,11 +27,11 @@ use Rattle.trial_laws.specs.Endings.{IsOfSource}
 use Rattle.steady_tries.specs.Steady.{arguments_of}
 use Rattle.steady_tries.specs.Ends.{IsOfProgram}
 use Rattle.trial_machine.specs.declared.machine.Machine.{Machine}
-use Rattle.trial_machine.specs.declared.decide.Decided.{Decided}
-use Rattle.trial_machine.specs.declared.decide.Decided.TheVariants.{Fails}
+use Rattle.trial_machine.specs.declared.decide.Trial.{Trial}
+use Rattle.trial_machine.specs.declared.decide.Trial.TheVariants.{Fails}
 use Rattle.trial_machine.specs.Machines.{Frame, course}
 use Rattle.trial_machine.specs.Goals.{Calls, NoGoal}
-use Rattle.trial_machine.specs.Deciding.{IsCodeOf, Decides, Concludes}
+use Rattle.trial_machine.specs.Deciding.{IsCodeOf, IsDecided, Concludes, at_end}
 use Rattle.trial_machine.proofs.GoalWords.{same_number}
 
 -- the goal of such a process
@@ -85,7 +85,7 @@ plain_fails t m bound f args is e =
 call_fails : (t : Tables) (kept : WordList) (p f n : ℕ) → Calls kept p f n → f < TRUE_PROCEDURE
     → ((s : Bindings) (args : List (Term Variable)) → length args ≡ n
     → enter 0 s (compiled t).ops args (slice_get t.procedures f) ≡ Some plain_fail) → (m : Machine) → m.trail.kept ≡ kept
-    → Decides t m p Fails
+    → IsDecided t (at_end m) p Fails
 call_fails t kept p f n c l h m same = record {
   says = λ prog is w vs bound g tried.
       let u = user_goal kept p f n c l w vs bound g (subst (λ k. IsTried k p w vs bound g) same tried) in
@@ -95,19 +95,19 @@ call_fails t kept p f n c l h m same = record {
 
 -- there is no such procedure
 pub no_procedure : (t : Tables) (kept : WordList) (p f n : ℕ) → Calls kept p f n → f < TRUE_PROCEDURE → slice_get t.procedures f ≡ None
-    → (m : Machine) → m.trail.kept ≡ kept → Decides t m p Fails
+    → (m : Machine) → m.trail.kept ≡ kept → IsDecided t (at_end m) p Fails
 no_procedure t kept p f n c l none m same =
     call_fails t kept p f n c l (λ s args k. ap (enter 0 s (compiled t).ops args) none) m same
 
 -- or it has another number of arguments
 pub other_count : (t : Tables) (kept : WordList) (p f n : ℕ) (e : Entrance) → Calls kept p f n → f < TRUE_PROCEDURE
-    → slice_get t.procedures f ≡ Some e → (n ≡ e.arity → ⊥) → (m : Machine) → m.trail.kept ≡ kept → Decides t m p Fails
+    → slice_get t.procedures f ≡ Some e → (n ≡ e.arity → ⊥) → (m : Machine) → m.trail.kept ≡ kept → IsDecided t (at_end m) p Fails
 other_count t kept p f n e c l there other m same =
     call_fails t kept p f n c l (λ s args k. ap (enter 0 s (compiled t).ops args) there
     ∙ not_entered 0 s (compiled t).ops args e (λ j. other (sym k ∙ j))) m same
 
 -- there is no goal at all
-pub nothing_to_say : (t : Tables) (p : ℕ) (m : Machine) → NoGoal m.trail.kept p → Decides t m p Fails
+pub nothing_to_say : (t : Tables) (p : ℕ) (m : Machine) → NoGoal m.trail.kept p → IsDecided t (at_end m) p Fails
 nothing_to_say t p m no_goal = record { says = λ prog is w vs bound g tried. absurd (no_goal w vs bound g tried); handed = tt }
 
 -- what a trial of the call follows
@@ -216,9 +216,9 @@ calls_on kept kept' p f n grows c = record {
 }
 
 -- what is concluded along the procedure's code is decided for the process
-pub decided : (t : Tables) (p f n first : ℕ) (e : Entrance) (old new : Machine) (d : Decided) → Calls old.trail.kept p f n
+pub decided : (t : Tables) (p f n first : ℕ) (e : Entrance) (old new : Machine) (d : Trial) → Calls old.trail.kept p f n
     → f < TRUE_PROCEDURE → slice_get t.procedures f ≡ Some e → n ≡ e.arity → e.first ≡ first
-    → Concludes (frame t f first p) old new d → Decides t new p d
+    → Concludes (frame t f first p) old new d → IsDecided t (at_end new) p d
 decided t p f n first e old new d calls below there arity begins h = record {
   says = λ prog is. h.says prog (of_program t old.trail.kept p f n first e calls below there arity begins old prog is);
   handed = h.handed;

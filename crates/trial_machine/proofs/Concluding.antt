@@ -9,7 +9,6 @@ use Rattle.word_states.specs.Trials.{IsTried, TriedCommit, IsReadCommit}
 use Rattle.word_states.specs.Pieces.{StartsAt, is_place, place_words}
 use Rattle.trial_laws.specs.Laws.{places_for}
 use Rattle.steady_tries.proofs.Places.{places_many}
-use Rattle.machine_code.specs.Instructions.{Commit}
 use Rattle.trial_laws.specs.AtHand.{AtHand, end_of}
 use Rattle.trial_laws.specs.Endings.{of_store, settled}
 use Rattle.trial_laws.specs.Leading.{IsTermWord}
@@ -23,7 +22,7 @@ use Rattle.steady_tries.proofs.Ending.{commit_steady, fail_between, wait_between
 use Rattle.steady_tries.proofs.Going.{the_store}
 use Rattle.trial_machine.specs.declared.machine.Machine.{Machine}
 use Rattle.trial_machine.specs.declared.run.Outcome.TheVariants as outcome
-use Rattle.trial_machine.specs.declared.decide.Decided.TheVariants.{Commits, Waits, Fails}
+use Rattle.trial_machine.specs.declared.decide.Trial.TheVariants.{Commit, Wait, Fails}
 use Rattle.trial_machine.specs.Machines.{Frame, course, at_machine, IsOnWay, NoStore}
 use Rattle.trial_machine.specs.Running.{CameTo}
 use Rattle.trial_machine.specs.Deciding.{Concludes, Settles}
@@ -61,7 +60,7 @@ fails m f h b = record {
 }
 
 -- not all did
-pub waits : (m : Machine) (f : Frame) → CameTo m f outcome.Leaves → m.desk.behind ≡ false → AreOnce m.trail.kept → Concludes f m m Waits
+pub waits : (m : Machine) (f : Frame) → CameTo m f outcome.Leaves → m.desk.behind ≡ false → AreOnce m.trail.kept → Concludes f m m Wait
 waits m f h b once = record {
   says = λ p is. wait_between (course f m) m.trail.kept h.0 (at_machine m) h.1.on_course h.1.between p is h.2 b;
   handed = wait m.trail.kept (at_machine m) no_tops 0 h.1.between.safe once;
@@ -100,7 +99,7 @@ module _ {S : Type 0} {addresses : S → ℕ} {sound : S → Type 0} {knows : S 
   pub commits : (m n : Machine) (f : Frame) (w : S) → CameTo m f outcome.Commits
       → IsStored addresses sound had shown later m.trail.kept w → AreOnce m.trail.binds → AreOnce m.trail.kept → Settles m n true
       → n.trail ≡ m.trail → n.desk.clause ≡ m.desk.clause → end_of 4000000000 m.desk.pieces ≤ 4268435456
-      → Concludes f m n Commits
+      → Concludes f m n Commit
   commits m n f w h stored binds_once once s same clause few = record {
     says = λ p is. on_new (λ k bs c ps. TriedCommit p k f.process c (of_store bs) ps)
         (commit_steady (course f m) m.trail.kept h.0 m.base (at_machine m) h.1.on_course h.1.steady p is h.2

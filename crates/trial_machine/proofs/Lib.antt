@@ -18,6 +18,7 @@ pub mod Arguments
 pub mod BoundTerms
 pub mod Settling
 pub mod Concluding
+pub mod HandingOver
 pub mod Calling
 pub mod Readiness
 pub mod BuiltIns

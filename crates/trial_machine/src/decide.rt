@@ -6,7 +6,7 @@ ghost use Rattle.word_states.specs.Pieces.{StartsAt};
 ghost use Rattle.trial_laws.specs.AtHand.{end_of};
 ghost use Rattle.trial_laws.specs.Leading.{IsTermWord};
 ghost use Rattle.safe_tries.specs.Stored.{IsStored};
-ghost use Rattle.trial_machine.specs.Deciding.{Decides, DecidesAll, ConcludesAll, Settles};
+ghost use Rattle.trial_machine.specs.Deciding.{IsDecided, DecidesAll, ConcludesAll, Settles, at_end};
 ghost use Rattle.trial_machine.specs.Goals.{Calls, HasStatus, IsIdle};
 ghost use Rattle.trial_machine.specs.Machines.{Frame};
 ghost use Rattle.trial_machine.specs.Running.{CameTo};
@@ -21,9 +21,9 @@ use try_desk::is_term;
 
 /// How a process is decided: a clause commits, it waits for the places that were read unbound, or it fails.
 #[derive(Clone, Copy, Debug, PartialEq, Eq)]
-pub enum Decided {
-    Commits,
-    Waits,
+pub enum Trial {
+    Commit,
+    Wait,
     Fails,
 }
 
@@ -64,7 +64,7 @@ impl Machine {
     }
 
     /// What is decided at the end of a trial.
-    fn conclude<W: Words>(&mut self, words: &W, outcome: Outcome) -> Decided
+    fn conclude<W: Words>(&mut self, words: &W, outcome: Outcome) -> Trial
         requires stored { IsStored W.addresses W.sound W.had W.shown W.later self.old.trail.kept words.now }
         requires ended { (f : Frame) × CameTo self.old f outcome }
         ensures concludes { ConcludesAll self.old self.new outcome result }
@@ -74,16 +74,16 @@ impl Machine {
         self.trail.once();
         match outcome {
             Outcome::Leaves => if self.desk.behind {
-                Decided::Fails
+                Trial::Fails
             } else {
-                Decided::Waits
+                Trial::Wait
             },
             Outcome::Commits => if self.settle() {
-                Decided::Commits
+                Trial::Commit
             } else {
-                Decided::Fails
+                Trial::Fails
             },
-            Outcome::Nowhere => Decided::Fails,
+            Outcome::Nowhere => Trial::Fails,
         }
     }
 
@@ -95,7 +95,7 @@ impl Machine {
         process: u32,
         procedure: u32,
         count: u32,
-    ) -> Result<Decided, NoMemory>
+    ) -> Result<Trial, NoMemory>
         requires stored { IsStored W.addresses W.sound W.had W.shown W.later self.old.trail.kept words.old }
         requires process { HasStatus W.had words.old process }
         requires call { Calls self.old.trail.kept process procedure count }
@@ -106,20 +106,20 @@ impl Machine {
         ensures between { W.later words.old words.new }
         ensures loaded { OnOk result (Loads W.addresses W.sound W.had W.shown W.later W.gave self.old.trail.kept words.old
             self.new.trail.kept words.new) }
-        ensures decides { IfOk result (λ d. Decides code.now self.new process d) }
+        ensures decides { IfOk result (λ d. IsDecided code.now (at_end self.new) process d) }
         ensures count { length self.new.desk.slots.slots ≡ length self.old.desk.slots.slots }
     {
         let Some((_, arity)) = code.name(procedure) else {
-            return Ok(Decided::Fails);
+            return Ok(Trial::Fails);
         };
         let Some(first) = code.first(procedure) else {
-            return Ok(Decided::Fails);
+            return Ok(Trial::Fails);
         };
         if count != arity {
-            return Ok(Decided::Fails);
+            return Ok(Trial::Fails);
         }
         if !self.load_arguments(words, process, count)? {
-            return Ok(Decided::Fails);
+            return Ok(Trial::Fails);
         }
         code.sound();
         let outcome = self.run(code, procedure, words, first)?;
@@ -132,7 +132,7 @@ impl Machine {
         words: &W,
         process: u32,
         count: u32,
-    ) -> Result<Decided, NoMemory>
+    ) -> Result<Trial, NoMemory>
         requires stored { IsStored W.addresses W.sound W.had W.shown W.later self.old.trail.kept words.now }
         requires call { Calls self.old.trail.kept process TRUE_PROCEDURE count }
         requires idle { IsIdle self.old }
@@ -152,7 +152,7 @@ impl Machine {
         words: &mut W,
         process: u32,
         count: u32,
-    ) -> Result<Decided, NoMemory>
+    ) -> Result<Trial, NoMemory>
         requires stored { IsStored W.addresses W.sound W.had W.shown W.later self.old.trail.kept words.old }
         requires process { HasStatus W.had words.old process }
         requires call { Calls self.old.trail.kept process UNIFY_PROCEDURE count }
@@ -165,7 +165,7 @@ impl Machine {
         ensures count { length self.new.desk.slots.slots ≡ length self.old.desk.slots.slots }
     {
         if count != 2 || !self.load_arguments(words, process, 2)? {
-            return Ok(Decided::Fails);
+            return Ok(Trial::Fails);
         }
         self.begin_try(0, 3, 0)?;
         let outcome = match self.unify(words, 0, 1)? {
@@ -181,7 +181,7 @@ impl Machine {
         words: &mut W,
         process: u32,
         count: u32,
-    ) -> Result<Decided, NoMemory>
+    ) -> Result<Trial, NoMemory>
         requires stored { IsStored W.addresses W.sound W.had W.shown W.later self.old.trail.kept words.old }
         requires process { HasStatus W.had words.old process }
         requires call { Calls self.old.trail.kept process ASSIGN_PROCEDURE count }
@@ -199,22 +199,22 @@ impl Machine {
     /// Decides the process at an address, by words that it loads. The slots are as many as the code names, or more. An assignment is
     /// not decided yet: the answer is `NoMemory`, though memory is left. After `NoMemory` the machine decides other processes as
     /// before.
-    pub fn decide<W: Words>(
+    pub(crate) fn decide<W: Words>(
         &mut self,
         code: &Code,
         process: u32,
         words: &mut W,
-    ) -> Result<Decided, NoMemory>
+    ) -> Result<Trial, NoMemory>
         requires stored { IsStored W.addresses W.sound W.had W.shown W.later [] words.old }
         requires process { HasStatus W.had words.old process }
         requires slots { code.now.slots ≤ length self.old.desk.slots.slots }
         ensures between { W.later words.old words.new }
         ensures loaded { OnOk result (Loads W.addresses W.sound W.had W.shown W.later W.gave [] words.old self.new.trail.kept words.new) }
-        ensures decides { IfOk result (λ d. Decides code.now self.new process d) }
+        ensures decides { IfOk result (λ d. IsDecided code.now (at_end self.new) process d) }
         ensures count { length self.new.desk.slots.slots ≡ length self.old.desk.slots.slots }
     {
         let Some((procedure, count)) = self.load_call(words, process)? else {
-            return Ok(Decided::Fails);
+            return Ok(Trial::Fails);
         };
         if procedure < TRUE_PROCEDURE {
             let decided = self.decide_call(code, words, process, procedure, count)?;

@@ -7,13 +7,14 @@ use stored_expressions::ExpressionLists;
 use try_desk::Desk;
 
 /// What a trial has at hand: the desk of a try; the trail of what it bound, read and kept; the places that the tries before it
-/// read; how many of the pieces were there before the last terms were put; how many variables the clause in hand has; and the work
-/// lists of unification, of tests and of stored expressions.
+/// read; the bindings that a commit hands over; how many of the pieces were there before the last terms were put; how many variables
+/// the clause in hand has; and the work lists of unification, of tests and of stored expressions.
 #[derive(Drop)]
 pub struct Machine {
     pub(crate) desk: Desk,
     pub(crate) trail: Trail,
     pub(crate) waits: Places,
+    pub(crate) binds: Vec<(u32, u64)>,
     pub(crate) base: u32,
     pub(crate) vars: u8,
     pub(crate) work: WorkLists,

@@ -6,5 +6,6 @@ pub mod Children
 pub mod Constants
 pub mod Opened
 pub mod Sizes
+pub mod Counted
 pub mod OpenedTuples
 pub mod Settling

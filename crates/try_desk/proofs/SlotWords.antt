@@ -146,3 +146,36 @@ pub terms_put : (h : Held) (i n x : ℕ) (old line line' : List ℕ) → line �
 terms_put h i n x old line line' e f g =
     g ∙ (ap₂ (λ (l : List ℕ) (y : ℕ). l ++ y ∷ []) e f
     ∙ (append_assoc old (held_terms h i n) (held_term h (i + n) ∷ []) ∙ ap (λ (l : List ℕ). old ++ l) (sym (terms_more h i n))))
+
+-- one slot more, which holds what its number held before
+words_last : (slots : List Slot) (i x now : ℕ) (o : Option ℕ) → (i ≡ length slots → x ≡ unwrap_or o 6)
+    → held_word (slice_get (slots ++ (record { word = x; stamp = 0; operation = false }) ∷ []) i) now o ≡ held_word (slice_get slots i) now o
+words_last [] zero x now o h = go (nat_eq 0 now)
+  where
+    go : (c : Bool) → cond c x (unwrap_or o 6) ≡ unwrap_or o 6
+    go true = h refl
+    go false = refl
+words_last [] (suc i) x now o h = refl
+words_last (s ∷ slots) zero x now o h = refl
+words_last (s ∷ slots) (suc i) x now o h = words_last slots i x now o (λ e. h (ap suc e))
+
+operators_last : (slots : List Slot) (i x now : ℕ)
+    → held_operator (slice_get (slots ++ (record { word = x; stamp = 0; operation = false }) ∷ []) i) now
+    ≡ held_operator (slice_get slots i) now
+operators_last [] zero x now = go (nat_eq 0 now)
+  where
+    go : (c : Bool) → cond c false false ≡ false
+    go true = refl
+    go false = refl
+operators_last [] (suc i) x now = refl
+operators_last (s ∷ slots) zero x now = refl
+operators_last (s ∷ slots) (suc i) x now = operators_last slots i x now
+
+pub slot_last : (slots slots' : List Slot) (now x : ℕ) (args : List ℕ)
+    → slots' ≡ slots ++ (record { word = x; stamp = 0; operation = false }) ∷ [] → x ≡ unwrap_or (slice_get args (length slots)) 6
+    → held_by slots' now args ≡ held_by slots now args
+slot_last slots slots' now x args e is =
+    ap (λ (l : List Slot). held_by l now args) e
+    ∙ ap₂ (λ (f : ℕ → ℕ) (g : ℕ → Bool). made f g)
+    (fun_ext (λ i. words_last slots i x now (slice_get args i) (λ k. is ∙ ap (λ (j : ℕ). unwrap_or (slice_get args j) 6) (sym k))))
+    (fun_ext (λ i. operators_last slots i x now))

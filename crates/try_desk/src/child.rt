@@ -13,7 +13,7 @@ use fcp_model::{ASSIGN_PROCEDURE, NoMemory, TRUE_PROCEDURE, UNIFY_PROCEDURE};
 use heap_words::{Cell, encode};
 
 /// The word of the status Ready.
-const READY: u64 = 9;
+pub(crate) const READY: u64 = 9;
 
 impl Desk {
     /// A new child calls a procedure with the contents of so many slots. One of the built-in processes with arguments takes two.

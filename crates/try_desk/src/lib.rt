@@ -9,6 +9,7 @@ mod get;
 mod open;
 mod open_tuple;
 mod pieces;
+mod processes;
 mod put;
 mod slots;
 mod term;

@@ -105,10 +105,11 @@ impl Pieces {
         self.words.as_slice()
     }
 
-    /// The sizes of the pieces: by them the words of all are cut into pieces.
+    /// The sizes of the pieces: by them the words of all are cut into pieces. They are at most 268,435,455.
     pub fn sizes(&self) -> &[u32]
         ensures cuts { cut (concat self.now) result.now ≡ self.now }
         ensures whole { total result.now ≡ length (concat self.now) }
+        ensures few { length result.now ≤ 268435455 }
     {
         self.sizes.as_slice()
     }

@@ -1,5 +1,5 @@
 //! The slots of a try. Each has the stamp of the try in which a word was put into it, so a new try resets them all at once.
-ghost use Rattle.std.specs.Prelude.{◌≡◌, ◌+◌, ◌<◌, ◌++◌, [], ◌∷◌, length, IfOk, OnOk, MatchResult, if◌then◌else◌, unwrap_or, slice_get};
+ghost use Rattle.std.specs.Prelude.{◌≡◌, ◌+◌, ◌<◌, ◌≤◌, ◌++◌, [], ◌∷◌, length, IfOk, OnOk, MatchResult, if◌then◌else◌, unwrap_or, slice_get};
 ghost use Rattle.try_desk.specs.Held.{held, held_terms, held_with, held_anew, NoneLater};
 ghost use Rattle.try_desk.specs.Keeping.{KeepsArguments};
 
@@ -54,9 +54,9 @@ fn argument_at(args: &[u64], at: u32) -> u64
     }
 }
 
-/// Puts a slot after the others.
+/// Puts a slot after the others. Where memory runs out, the slots stay as they were.
 fn put_slot(slots: &mut Vec<Slot>, slot: Slot) -> Result<(), NoMemory>
-    ensures { OnOk result (slots.new.items ≡ slots.old.items ++ slot ∷ []) }
+    ensures { MatchResult result (λ _. slots.new.items ≡ slots.old.items ++ slot ∷ []) (λ _. slots.new.items ≡ slots.old.items) }
 {
     match slots.push(slot) {
         Ok(()) => Ok(()),
@@ -108,6 +108,46 @@ impl Slots {
             stamp: 1,
             args: Vec::new(alloc),
         })
+    }
+
+    /// How many slots there are.
+    fn count(&self) -> usize
+        ensures { result ≡ length self.now.slots }
+    {
+        self.slots.as_slice().len()
+    }
+
+    /// Makes one slot more. It holds the argument of its number, or the empty list, as that number did before. Where memory runs out,
+    /// the slots stay as they were.
+    fn put_next(&mut self) -> Result<(), NoMemory>
+        requires { length self.old.slots < 4294967296 }
+        ensures count { MatchResult result (λ _. length self.new.slots ≡ length self.old.slots + 1)
+            (λ _. length self.new.slots ≡ length self.old.slots) }
+        ensures held { held self.new ≡ held self.old }
+        ensures args { self.new.args ≡ self.old.args }
+    {
+        let at = self.count() as u32;
+        let slot = Slot {
+            word: argument_at(self.args.as_slice(), at),
+            stamp: 0,
+            operation: false,
+        };
+        put_slot(&mut self.slots, slot)?;
+        Ok(())
+    }
+
+    /// Makes slots until there are `count`. Where there are as many or more, nothing changes: no slot is ever dropped. What the slots
+    /// hold stays the same. So it does where memory runs out, and then some of the slots may have been made.
+    pub fn reach(&mut self, count: u32) -> Result<(), NoMemory>
+        ensures reached { OnOk result (count ≤ length self.new.slots) }
+        ensures more { length self.old.slots ≤ length self.new.slots }
+        ensures held { held self.new ≡ held self.old }
+        ensures args { self.new.args ≡ self.old.args }
+    {
+        for i in self.count()..count as usize {
+            self.put_next()?;
+        }
+        Ok(())
     }
 
     /// The word of a slot.
