@@ -7,6 +7,7 @@ pub mod Apart
 pub mod Applied
 pub mod Writable
 pub mod Sizes
+pub mod Finding
 pub mod Landing
 pub mod CommitWrites
 pub mod HangWrites

@@ -34,7 +34,7 @@ bool_same true y f g = sym (f refl)
 bool_same false true f g = g refl
 bool_same false false f g = refl
 
-name_one : (p q : Proc) → p.number < 268435456 → q.number < 268435456 → name_code p.entry p.number ≡ name_code q.entry q.number → p ≡ q
+pub name_one : (p q : Proc) → p.number < 268435456 → q.number < 268435456 → name_code p.entry p.number ≡ name_code q.entry q.number → p ≡ q
 name_one p q h k e =
     let a : p.entry ≡ q.entry = omega arith in
     let b : p.number ≡ q.number = omega arith in

@@ -17,7 +17,7 @@ use Rattle.word_states.specs.Words.{Words}
 use Rattle.word_states.specs.Standing.{Book, StandsFor, StandsAt, ProcessAt}
 use Rattle.word_states.specs.Trials.{FailSays}
 use Rattle.word_states.specs.Effects.{HangEffect}
-use Rattle.word_states.specs.Going.{Goes}
+use Rattle.word_state_laws.specs.Laws.{GoesBy, book_after}
 use Rattle.word_states.proofs.Persisting.{status_up}
 use Rattle.word_state_laws.proofs.Hanging.{same_process_refl, hang_stands}
 use Rattle.word_state_laws.proofs.Committing.{commit_stands}
@@ -67,15 +67,15 @@ agrees e ev o h g = ap (agreed e) h ∙ cond-true _ _ _ g
 
 -- a commit that is laid
 pub commit_goes : {m : Program} {book : Book} {s : State} {p : ℕ} {x : Process} {k : ℕ} {binds : WordList} {ps : List (List ℕ)}
-    {wakes : List ℕ}
-    {f : ℕ → ℕ} {w w' : Words} → LaidCommit m book s p x k binds ps wakes f w w' → is_running s.mode ≡ true → Goes m s (Commit x.name k) w'
+    {wakes : List ℕ} {f : ℕ → ℕ} {w w' : Words} → (known : LaidCommit m book s p x k binds ps wakes f w w') → is_running s.mode ≡ true
+    → GoesBy m (book_after book f (suc s.entries) ps) s x (commits k known.says.bindings known.says.reads) w'
 commit_goes {m = m} {book = book} {s = s} {p = p} {x = x} {k = k} {w = w} {w' = w'} known running = record {
-  steps = known.says.decides.0;
-  event = event;
-  legal = agrees (Commit x.name k) event (move known.says.decides.0 m s x.name)
-      (moves m book w s p x known.says.decides.0 _ known.stands known.parent known.was_ready running known.says.decides.1)
-      (and_from _ _ (same_process_refl x.name) (eq-eqb k _ refl));
-  book = record { places = book.places ++ _; processes = book.processes ++ _ };
+  legal = (
+    known.says.decides.0,
+    agrees (Commit x.name k) event (move known.says.decides.0 m s x.name)
+        (moves m book w s p x known.says.decides.0 _ known.stands known.parent known.was_ready running known.says.decides.1)
+        (and_from _ _ (same_process_refl x.name) (eq-eqb k _ refl)),
+  );
   stands = commit_stands book _ _ s p x (clause_used m x.goal k) known.says.bindings w w' known.stands (commit_effect known);
 }
   where
@@ -84,14 +84,13 @@ commit_goes {m = m} {book = book} {s = s} {p = p} {x = x} {k = k} {w = w} {w' = 
 
 pub hang_goes : (m : Program) (book : Book) (s : State) (p : ℕ) (x : Process) (w w' : Words) (rs : List _) → StandsFor book w s
     → ProcessAt book s p x → x.status ≡ ready → is_running s.mode ≡ true → Decides m s.bound x.goal (waits_on rs)
-    → HangEffect book s p x (places_among rs) w w' → Goes m s (Hang x.name) w'
+    → HangEffect book s p x (places_among rs) w w' → GoesBy m book s x (waits_on rs) w'
 hang_goes m book s p x w w' rs stands h st running d eff = record {
-  steps = d.0;
-  event = event_of m s x (waits_on rs);
-  legal =
-      agrees (Hang x.name) (event_of m s x (waits_on rs)) (move d.0 m s x.name) (moves m book w s p x d.0 _ stands h st running d.1)
-      (same_process_refl x.name);
-  book = book;
+  legal = (
+    d.0,
+    agrees (Hang x.name) (event_of m s x (waits_on rs)) (move d.0 m s x.name) (moves m book w s p x d.0 _ stands h st running d.1)
+        (same_process_refl x.name),
+  );
   stands = hang_stands book s p x (places_among rs) w w' stands eff;
 }
 
@@ -128,13 +127,12 @@ fail_stands book w s stands = record {
 }
 
 pub fail_goes : (m : Program) (book : Book) (s : State) (p : ℕ) (x : Process) (w : Words) → StandsFor book w s → ProcessAt book s p x
-    → x.status ≡ ready → is_running s.mode ≡ true → FailSays m s.bound x.goal → Goes m s (Fail x.name) w
+    → x.status ≡ ready → is_running s.mode ≡ true → (says : FailSays m s.bound x.goal) → GoesBy m book s x (decides_fail says.reads) w
 fail_goes m book s p x w stands h st running says = record {
-  steps = says.decides.0;
-  event = event_of m s x (decides_fail says.reads);
-  legal =
-      agrees (Fail x.name) (event_of m s x (decides_fail says.reads)) (move says.decides.0 m s x.name)
-      (moves m book w s p x says.decides.0 _ stands h st running says.decides.1) (same_process_refl x.name);
-  book = book;
+  legal = (
+    says.decides.0,
+    agrees (Fail x.name) (event_of m s x (decides_fail says.reads)) (move says.decides.0 m s x.name)
+        (moves m book w s p x says.decides.0 _ stands h st running says.decides.1) (same_process_refl x.name),
+  );
   stands = fail_stands book w s stands;
 }
