@@ -27,7 +27,7 @@ pub fn load_word<W: Words>(trail: &mut Trail, words: &mut W, addr: u32) -> Resul
 }
 
 /// The number whose word stands at a known address, where nothing is bound; `None` where another word stands there.
-fn load_number<W: Words>(
+pub fn load_number<W: Words>(
     trail: &mut Trail,
     words: &mut W,
     addr: u32,

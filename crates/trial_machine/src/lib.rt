@@ -19,6 +19,6 @@ mod trial;
 mod unify;
 
 pub use decide::Trial;
-pub use goal::load_word;
+pub use goal::{load_number, load_word};
 pub use machine::Machine;
 pub use places::Places;
