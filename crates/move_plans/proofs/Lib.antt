@@ -1,0 +1,4 @@
+pub mod Rereading
+pub mod Pieces
+pub mod CommitCells
+pub mod Planning

@@ -1,0 +1,36 @@
+-- Pieces, cut from their words by their sizes.
+use Rattle.std.proofs.Common.{◌≡◌, ℕ, zero, suc, ◌+◌, ◌≤◌, Bool, true, false, cond, List, [], ◌∷◌, ◌++◌, length, map, take, drop, refl, sym}
+use Rattle.std.proofs.Common.{ap, ◌∙◌, arith, append_assoc}
+use Rattle.std.specs.List.{concat}
+use Rattle.std.proofs.lemmas.List.{length-take-le, length-drop}
+use Rattle.word_states.specs.Pieces.{is_process, process_words}
+use Rattle.page_layout.specs.Laying.{cuts, total}
+use Rattle.try_desk.specs.Cuts.{cut}
+use Rattle.try_desk.specs.Cuts as desk
+use Rattle.move_plans.specs.Stages.{sizes_of}
+
+take_front : (xs ys : List ℕ) → take (length xs) (xs ++ ys) ≡ xs
+take_front [] ys = refl
+take_front (x ∷ xs) ys = ap (λ (l : List ℕ). x ∷ l) (take_front xs ys)
+
+drop_front : (xs ys : List ℕ) → drop (length xs) (xs ++ ys) ≡ ys
+drop_front [] ys = refl
+drop_front (x ∷ xs) ys = drop_front xs ys
+
+pub cuts_whole : (ps : List (List ℕ)) → cuts (sizes_of ps) (concat ps) ≡ ps
+cuts_whole [] = refl
+cuts_whole (p ∷ ps) =
+    ap (λ (q : List ℕ). q ∷ cuts (sizes_of ps) (drop (length p) (p ++ concat ps))) (take_front p (concat ps))
+    ∙ ap (λ (l : List ℕ). p ∷ cuts (sizes_of ps) l) (drop_front p (concat ps))
+    ∙ ap (λ (l : List (List ℕ)). p ∷ l) (cuts_whole ps)
+
+-- the sizes by which all words are cut are those of the pieces
+pub sizes_are : (ns ws : List ℕ) → desk.total ns ≡ length ws → sizes_of (cut ws ns) ≡ ns
+sizes_are [] ws e = refl
+sizes_are (n ∷ ns) ws e =
+    ap (λ (k : ℕ). k ∷ sizes_of (cut (drop n ws) ns)) (length-take-le n ws (omega arith))
+    ∙ ap (λ (l : List ℕ). n ∷ l) (sizes_are ns (drop n ws) (let d = length-drop n ws in omega arith))
+
+pub same_total : (ns : List ℕ) → desk.total ns ≡ total ns
+same_total [] = refl
+same_total (n ∷ ns) = ap (λ (k : ℕ). n + k) (same_total ns)

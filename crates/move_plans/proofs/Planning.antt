@@ -1,0 +1,87 @@
+-- What was laid and put is a plan, by the laws of moves.
+use Rattle.std.proofs.Common.{◌≡◌, ℕ, ◌+◌, ◌*◌, ◌/◌, ◌%◌, ◌<◌, List, refl, sym, ap, ◌∙◌, subst, arith, Some}
+use Rattle.std.specs.Prelude.{pos}
+use Rattle.std.specs.List.{concat}
+use Rattle.fcp_model.specs.declared.run.Entry.{Entry}
+use Rattle.fcp_model.specs.declared.run.Entry.TheVariants.{Commit, Hang, Fail}
+use Rattle.fcp_model.specs.declared.run.Proc.{Proc}
+use Rattle.heap_words.specs.Trails.{WordList, word_at}
+use Rattle.heap_words.specs.declared.cell.Cell.TheVariants.{Small, Status}
+use Rattle.heap_words.specs.declared.cell.Stand.TheVariants.{Ready}
+use Rattle.word_states.specs.Words.{At, addresses_of}
+use Rattle.word_states.specs.Standing.{name_code}
+use Rattle.word_states.specs.Trials.{AreReads, TriedCommit}
+use Rattle.machine_code.specs.Compiling.{Tables}
+use Rattle.trial_machine.specs.declared.decide.Trial.TheVariants as trial
+use Rattle.trial_machine.specs.Deciding.{IsDecided, handed_over}
+use Rattle.page_layout.specs.declared.rooms.Room.{Room}
+use Rattle.page_layout.specs.Laying.{cuts}
+use Rattle.word_moves.specs.Planned.{process_of, ReadsProcess, CellsSay, IsCommitMove, IsHangMove, IsFailMove}
+use Rattle.word_moves.specs.Laws.{ACommitFits, AHangFits, AFailFits, ACommitIsSafe, AHangIsSafe, AFailIsSafe}
+use Rattle.move_plans.specs.declared.planner.Planner.{Planner}
+use Rattle.move_plans.specs.Plans.{move_of, IsMoveOf, NamesMover, IsPlan}
+use Rattle.move_plans.specs.Stages.{sizes_of, LaysCommit, LaysHang}
+use Rattle.move_plans.proofs.Pieces.{cuts_whole}
+
+-- the name's word says the process
+name_says : (z : ℕ) → name_code (process_of z).entry (process_of z).number ≡ z
+name_says z = omega arith
+
+names : (kept read : WordList) (p z : ℕ) (e : Entry) → read ≡ kept → ReadsProcess kept p z → IsMoveOf e (process_of z) → NamesMover read p e
+names kept read p z e same h is = record {
+  mover = process_of z;
+  is_move = is;
+  small = (let l : z % 268435456 < 268435456 = omega arith in l);
+  name = subst (λ (r : WordList). At (word_at r) (p + 1) (Small (pos (name_code (process_of z).entry (process_of z).number)))) (sym same)
+      (subst (λ (n : ℕ). At (word_at kept) (p + 1) (Small (pos n))) (sym (name_says z)) h.name);
+}
+
+ready : (kept read : WordList) (p z : ℕ) → read ≡ kept → ReadsProcess kept p z → At (word_at read) p (Status Ready)
+ready kept read p z same h = subst (λ (r : WordList). At (word_at r) p (Status Ready)) (sym same) h.status
+
+pub fail_plan : AFailFits → AFailIsSafe → (t : Tables) (old new : Planner) (p z : ℕ) → ReadsProcess old.machine.trail.kept p z
+    → AreReads old.machine.trail.kept → IsDecided t (handed_over old.machine) p trial.Fails
+    → IsFailMove (move_of new p) old.machine.trail.kept p z → IsPlan t new p
+fail_plan fits safe t old new p z mover reads decided is = record {
+  is_ready = ready old.machine.trail.kept new.machine.trail.kept p z is.reads mover;
+  named = names old.machine.trail.kept new.machine.trail.kept p z new.entry is.reads mover
+      (subst (λ (e : Entry). IsMoveOf e (process_of z)) (sym is.entry) refl);
+  safe = safe (move_of new p) old.machine.trail.kept p z reads is;
+  fits = λ m code. fits (move_of new p) old.machine.trail.kept p z mover is m (decided.says m code);
+}
+
+pub hang_plan : AHangFits → AHangIsSafe → (t : Tables) (kept : WordList) (old new : Planner) (p z : ℕ) → ReadsProcess kept p z
+    → ((a x : ℕ) → word_at kept a ≡ Some x → word_at old.machine.trail.kept a ≡ Some x)
+    → IsDecided t (handed_over old.machine) p trial.Wait → LaysHang kept old p
+    → IsHangMove (move_of new p) old.machine.trail.kept p z old.lists.items old.rooms.items old.table.items → IsPlan t new p
+hang_plan fits safe t kept old new p z mover grows decided laid is =
+    let planned = laid.planned z mover in
+    record {
+      is_ready = ready old.machine.trail.kept new.machine.trail.kept p z is.reads planned.process;
+      named = names old.machine.trail.kept new.machine.trail.kept p z new.entry is.reads planned.process
+          (subst (λ (e : Entry). IsMoveOf e (process_of z)) (sym is.entry) refl);
+      safe = safe (move_of new p) old.machine.trail.kept p z old.lists.items old.rooms.items old.table.items planned is;
+      fits = λ m code. fits (move_of new p) old.machine.trail.kept p z old.lists.items old.rooms.items old.table.items planned is m
+          (rw laid.places (decided.says m code));
+    }
+
+pub commit_plan : ACommitFits → ACommitIsSafe → (t : Tables) (kept : WordList) (old new : Planner) (p z cells : ℕ) → ReadsProcess kept p z
+    → IsDecided t (handed_over old.machine) p trial.Commit → LaysCommit t kept old p cells
+    → IsCommitMove (move_of new p) old.machine.trail.kept p z old.machine.desk.clause old.machine.binds.items
+    (sizes_of old.machine.desk.pieces) (concat old.machine.desk.pieces) old.woken.items old.rooms.items old.table.items
+    → new.cells ≡ cells → IsPlan t new p
+commit_plan fits safe t kept old new p z cells mover decided laid is same =
+    let planned = laid.planned z mover in
+    let d = old.machine.desk in
+    record {
+      is_ready = ready old.machine.trail.kept new.machine.trail.kept p z is.reads planned.process;
+      named = names old.machine.trail.kept new.machine.trail.kept p z new.entry is.reads planned.process
+          (subst (λ (e : Entry). IsMoveOf e (process_of z)) (sym is.entry) refl);
+      safe = safe (move_of new p) old.machine.trail.kept p z d.clause old.machine.binds.items (sizes_of d.pieces) (concat d.pieces)
+          old.woken.items old.rooms.items old.table.items planned is;
+      fits = λ m code. fits (move_of new p) old.machine.trail.kept p z d.clause old.machine.binds.items (sizes_of d.pieces)
+          (concat d.pieces) old.woken.items old.rooms.items old.table.items planned is m
+          (subst (λ (ps : List (List ℕ)). TriedCommit m old.machine.trail.kept p d.clause old.machine.binds.items ps)
+          (sym (cuts_whole d.pieces)) (decided.says m code))
+          (subst (λ (n : ℕ). CellsSay m old.machine.trail.kept p d.clause n) (sym same) (laid.cells_say m code));
+    }
