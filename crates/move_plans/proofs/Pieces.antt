@@ -2,7 +2,7 @@
 use Rattle.std.proofs.Common.{◌≡◌, ℕ, zero, suc, ◌+◌, ◌≤◌, Bool, true, false, cond, List, [], ◌∷◌, ◌++◌, length, map, take, drop, refl, sym}
 use Rattle.std.proofs.Common.{ap, ◌∙◌, arith, append_assoc}
 use Rattle.std.specs.List.{concat}
-use Rattle.std.proofs.lemmas.List.{length-take-le, length-drop}
+use Rattle.std.proofs.lemmas.List.{length-take-le, length-drop, length-append}
 use Rattle.word_states.specs.Pieces.{is_process, process_words}
 use Rattle.page_layout.specs.Laying.{cuts, total}
 use Rattle.try_desk.specs.Cuts.{cut}
@@ -34,3 +34,11 @@ sizes_are (n ∷ ns) ws e =
 pub same_total : (ns : List ℕ) → desk.total ns ≡ total ns
 same_total [] = refl
 same_total (n ∷ ns) = ap (λ (k : ℕ). n + k) (same_total ns)
+
+-- so they are the sizes of the pieces
+pub sizes_is : (ps : List (List ℕ)) (ns : List ℕ) → cut (concat ps) ns ≡ ps → desk.total ns ≡ length (concat ps) → ns ≡ sizes_of ps
+sizes_is ps ns h e = sym (sizes_are ns (concat ps) e) ∙ ap sizes_of h
+
+pub whole_total : (ps : List (List ℕ)) → length (concat ps) ≡ total (sizes_of ps)
+whole_total [] = refl
+whole_total (p ∷ ps) = length-append p (concat ps) ∙ ap (λ (n : ℕ). length p + n) (whole_total ps)

@@ -77,7 +77,7 @@ pub(crate) fn put_threes(sizes: &mut Vec<u32>, count: usize) -> Result<(), NoMem
     ensures { OnOk result (sizes.new.items ≡ threes count) }
 {
     sizes.clear();
-    for _ in 0..count {
+    for i in 0..count {
         if sizes.push(ENTRY).is_err() {
             return Err(NoMemory);
         }
