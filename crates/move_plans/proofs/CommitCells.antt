@@ -42,7 +42,7 @@ none_there : (o : Option (ℕ × ℕ)) (n : ℕ) → cells_where o n None ≡ 1
 none_there None n = refl
 none_there (Some e) n = same (nat_eq e.1 n)
   where
-    same : (b : Bool) → cond b 1 1 ≡ 1
+    same : (b : Bool) → ◌≡◌ {A = ℕ} (cond b 1 1) 1
     same true = refl
     same false = refl
 

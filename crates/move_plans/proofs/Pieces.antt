@@ -4,7 +4,10 @@ use Rattle.std.proofs.Common.{ap, ◌∙◌, arith, append_assoc}
 use Rattle.std.specs.List.{concat}
 use Rattle.std.proofs.lemmas.List.{length-take-le, length-drop, length-append}
 use Rattle.word_states.specs.Pieces.{is_process, process_words}
-use Rattle.page_layout.specs.Laying.{cuts, total}
+use Rattle.heap_words.specs.Trails.{WordList}
+use Rattle.word_states.specs.Planning.{commit_writes}
+use Rattle.page_layout.specs.declared.rooms.Room.{Room}
+use Rattle.page_layout.specs.Laying.{cuts, total, moved_to, tops_of}
 use Rattle.try_desk.specs.Cuts.{cut}
 use Rattle.try_desk.specs.Cuts as desk
 use Rattle.move_plans.specs.Stages.{sizes_of}
@@ -42,3 +45,14 @@ sizes_is ps ns h e = sym (sizes_are ns (concat ps) e) ∙ ap sizes_of h
 pub whole_total : (ps : List (List ℕ)) → length (concat ps) ≡ total (sizes_of ps)
 whole_total [] = refl
 whole_total (p ∷ ps) = length-append p (concat ps) ∙ ap (λ (n : ℕ). length p + n) (whole_total ps)
+
+-- the writes of a commit, by equal lists
+pub commit_same : (rooms rooms' : List Room) (table table' : List ℕ) (n p : ℕ) (binds binds' : WordList) (ps ps' : List (List ℕ))
+    (wakes wakes' : List ℕ) → rooms ≡ rooms' → table ≡ table' → binds ≡ binds' → ps ≡ ps' → wakes ≡ wakes'
+    → commit_writes (moved_to table) n p binds ps wakes (tops_of rooms) ≡ commit_writes (moved_to table') n p binds' ps' wakes' (tops_of rooms')
+commit_same rooms rooms' table table' n p binds binds' ps ps' wakes wakes' e f g h k =
+    ap (λ (rs : List Room). commit_writes (moved_to table) n p binds ps wakes (tops_of rs)) e
+    ∙ ap (λ (l : List ℕ). commit_writes (moved_to l) n p binds ps wakes (tops_of rooms')) f
+    ∙ ap (λ (bs : WordList). commit_writes (moved_to table') n p bs ps wakes (tops_of rooms')) g
+    ∙ ap (λ (qs : List (List ℕ)). commit_writes (moved_to table') n p binds' qs wakes (tops_of rooms')) h
+    ∙ ap (λ (qs : List ℕ). commit_writes (moved_to table') n p binds' ps' qs (tops_of rooms')) k

@@ -65,6 +65,12 @@ module _ {S : Type 0} {addresses : S → ℕ} {sound : S → Type 0} {knows : S 
       → (e : ℕ) × ReadsPlace kept a e → knows w a
   place_known kept w a s r = let m = among_word kept a r.1.0 r.1.1 in laws.had_known w a m.0 s.sound (s.had a m.0 m.1)
 
+-- a place at a position is among them
+pub is_there : (bs : List ℕ) (i : ℕ) → i < length bs → IsIn (get_or bs i 0) bs
+is_there [] i l = absurd (omega (arith, l))
+is_there (b ∷ bs) zero l = inl refl
+is_there (b ∷ bs) (suc i) l = inr (is_there bs i (omega arith))
+
 -- places, one after another
 pub no_places : (kept : WordList) → HasPlaces kept [] []
 no_places kept = record { same = refl; each = λ a e h. absurd h }

@@ -56,14 +56,14 @@ module _ (kept kept' : WordList) (grows : Grows kept kept') where
       own = λ a x e f. leads_more ps x (h.own a x e f);
     }
 
-    place_more : (a : ℕ) → (e : ℕ) × ReadsPlace kept a e → (e : ℕ) × ReadsPlace kept' a e
-    place_more a r = (r.0, r.1.0, among_more reads a r.1.0 r.1.1, r.1.2)
+    pub place_more : (a : ℕ) → (e : ℕ) × ReadsPlace kept a e → (e : ℕ) × ReadsPlace kept' a e
+    place_more a r = (r.0, (r.1.0, among_more reads a r.1.0 r.1.1, r.1.2))
 
   module _ (binds : WordList) (ps : List (List ℕ)) where
-    seen : Words
+    abbrev seen : Words
     seen = trial_words (word_at kept) binds ps
 
-    seen' : Words
+    abbrev seen' : Words
     seen' = trial_words (word_at kept') binds ps
 
     -- what the try saw, it sees still

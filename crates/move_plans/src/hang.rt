@@ -118,12 +118,13 @@ impl Planner {
             self.new.machine.trail.kept words.new) }
         ensures says { IfOk result (λ d. PlanSays code.now self.new process d) }
     {
-        if !self.lay_hang(words, process, pages)? {
-            return Ok(Planned::Full);
+        let laid = self.lay_hang(words, process, pages)?;
+        if laid {
+            self.put_hang_move(process, name)?;
+            word_moves::fits();
+            word_moves::safe();
+            return Ok(Planned::Hangs);
         }
-        self.put_hang_move(process, name)?;
-        word_moves::fits();
-        word_moves::safe();
-        Ok(Planned::Hangs)
+        Ok(Planned::Full)
     }
 }

@@ -1,5 +1,5 @@
 //! The places for which a process waits, with the waiting lists that are there.
-ghost use Rattle.std.specs.Prelude.{◌≡◌, ℕ, [], OnOk};
+ghost use Rattle.std.specs.Prelude.{◌≡◌, ◌++◌, ℕ, [], ◌∷◌, OnOk};
 ghost use Rattle.heap_words.specs.Cells.{decoded};
 ghost use Rattle.word_states.specs.Led.{ReadsPlace};
 ghost use Rattle.word_states.specs.Words.{IsIn};
@@ -72,15 +72,23 @@ pub(crate) fn put_places<W: Words>(
     Ok(())
 }
 
+/// Puts the size of a waiting entry at the end of a list.
+fn put_three(sizes: &mut Vec<u32>) -> Result<(), NoMemory>
+    ensures { OnOk result (sizes.new.items ≡ sizes.old.items ++ 3 ∷ []) }
+{
+    match sizes.push(ENTRY) {
+        Ok(()) => Ok(()),
+        Err(_) => Err(NoMemory),
+    }
+}
+
 /// Fills a list with the sizes of so many waiting entries.
 pub(crate) fn put_threes(sizes: &mut Vec<u32>, count: usize) -> Result<(), NoMemory>
     ensures { OnOk result (sizes.new.items ≡ threes count) }
 {
     sizes.clear();
     for i in 0..count {
-        if sizes.push(ENTRY).is_err() {
-            return Err(NoMemory);
-        }
+        put_three(sizes)?;
     }
     Ok(())
 }

@@ -1,7 +1,6 @@
 use Rattle.std.proofs.Common.{◌∙◌, slice_index_or}
-use Rattle.suspension_lists.proofs.Gathering.{in_there}
 use Rattle.trial_machine.proofs.Loading.{loads_on}
-use Rattle.move_plans.proofs.Reading.{place_known, places_more}
+use Rattle.move_plans.proofs.Reading.{is_there, place_known, places_more}
 use Rattle.move_plans.proofs.places.put_places.Goals as goal
 
 pub put_place-requires-clause-known : goal.put_place-requires-clause-known
@@ -9,7 +8,7 @@ put_place-requires-clause-known g c =
     let place = slice_index_or c.args.places.now c.loop-place.place-index 0 in
     g.met.W.Words.laws.stays_known c.args.words.now c.loop-place.words place c.loop-place.invariant.between
     (place_known g.met.W.Words.laws c.args.trail.now.kept c.args.words.now place c.requires.stored
-    (c.requires.opened place (in_there c.args.places.now c.loop-place.place-index c.loop-place-test.true)))
+    (c.requires.opened place (is_there c.args.places.now c.loop-place.place-index c.loop-place-test.true)))
 
 pub loop-place-preserved : goal.loop-place-preserved
 loop-place-preserved g c =
