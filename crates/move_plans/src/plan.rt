@@ -132,7 +132,10 @@ impl Planner {
     {
         let (trial, mover) = self.begin(code, words, process)?;
         match mover {
-            Mover::Named(name) => self.plan_trial(code, words, process, name, trial, pages),
+            Mover::Named(name) => {
+                let planned = self.plan_trial(code, words, process, name, trial, pages)?;
+                Ok(planned)
+            }
             Mover::Other(stand) => Ok(Planned::Gone(stand)),
             // No store has such words, so that nothing has to fit.
             Mover::Nowhere => Ok(Planned::Full),

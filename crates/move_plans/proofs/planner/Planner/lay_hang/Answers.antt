@@ -1,5 +1,7 @@
-use Rattle.std.proofs.Common.{◌∙◌}
+use Rattle.std.proofs.Common.{◌≡◌, ◌∙◌, ℕ, List, length, ap, subst}
+use Rattle.page_layout.specs.Hangs.{threes}
 use Rattle.trial_machine.proofs.Loading.{loads_on}
+use Rattle.move_plans.specs.Places.{HasPlaces}
 use Rattle.move_plans.proofs.Laying.{lays_hang}
 use Rattle.move_plans.proofs.Reading.{are_reads}
 use Rattle.move_plans.proofs.planner.Planner.lay_hang.Goals as goal
@@ -12,7 +14,12 @@ returns-clause-loaded g c =
 
 pub returns-clause-lays : goal.returns-clause-lays
 returns-clause-lays g c t =
-    lays_hang c.args.self.now.machine.trail.kept c.put_places.new.trail.kept _ c.args.process c.put_threes.new.sizes.items
+    let three : c.as_slice-2.result.now ≡ threes (length c.put_places.new.lists.items) =
+    c.as_slice-2.ensures.value ∙ c.in_ok-put_threes.ensures ∙ ap threes c.len.ensures in
+    lays_hang c.args.self.now.machine.trail.kept c.put_places.new.trail.kept _ c.args.process c.as_slice-2.result.now
     c.in_ok-put_places.ensures.loaded.grows c.in_ok-laid.ensures.loaded.grows
     (are_reads g.met.W.Words.laws c.find_room.new.trail.kept c.find_room.new.words c.in_ok-laid.ensures.loaded.stored c.once.ensures.kept)
-    c.requires.wait c.in_ok-put_places.ensures.places c.in_ok-put_threes.ensures (c.in_ok-laid.ensures.room t) c.ranges.process
+    c.requires.wait
+    (subst (λ (ps : List ℕ). HasPlaces c.put_places.new.trail.kept ps c.put_places.new.lists.items) c.as_slice.ensures.places
+    c.in_ok-put_places.ensures.places)
+    three (c.in_ok-laid.ensures.room t) c.ranges.process
