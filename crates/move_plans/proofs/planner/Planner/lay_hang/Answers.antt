@@ -1,4 +1,4 @@
-use Rattle.std.proofs.Common.{◌≡◌, ◌∙◌, ℕ, List, length, ap, subst}
+use Rattle.std.proofs.Common.{◌≡◌, ◌∙◌, ℕ, List, length, vec_len, ap, subst, arith}
 use Rattle.page_layout.specs.Hangs.{threes}
 use Rattle.trial_machine.proofs.Loading.{loads_on}
 use Rattle.move_plans.specs.Places.{HasPlaces}
@@ -14,12 +14,13 @@ returns-clause-loaded g c =
 
 pub returns-clause-lays : goal.returns-clause-lays
 returns-clause-lays g c t =
+    let size : vec_len c.put_places.new.lists ≡ length c.put_places.new.lists.items = omega (arith, c.put_places.new.lists.ok.0) in
     let three : c.as_slice-2.result.now ≡ threes (length c.put_places.new.lists.items) =
-    c.as_slice-2.ensures.value ∙ c.in_ok-put_threes.ensures ∙ ap threes c.len.ensures in
+    c.as_slice-2.ensures.value ∙ c.in_ok-put_threes.ensures ∙ ap threes (c.len.ensures ∙ size) in
     lays_hang c.args.self.now.machine.trail.kept c.put_places.new.trail.kept _ c.args.process c.as_slice-2.result.now
     c.in_ok-put_places.ensures.loaded.grows c.in_ok-laid.ensures.loaded.grows
     (are_reads g.met.W.Words.laws c.find_room.new.trail.kept c.find_room.new.words c.in_ok-laid.ensures.loaded.stored c.once.ensures.kept)
     c.requires.wait
     (subst (λ (ps : List ℕ). HasPlaces c.put_places.new.trail.kept ps c.put_places.new.lists.items) c.as_slice.ensures.places
     c.in_ok-put_places.ensures.places)
-    three (c.in_ok-laid.ensures.room t) c.ranges.process
+    three (c.in_ok-laid.ensures.room t) (let low = c.ranges.process.fits in omega arith)
