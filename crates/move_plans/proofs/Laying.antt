@@ -1,21 +1,18 @@
 -- What was read and laid is planned.
-use Rattle.std.proofs.Common.{◌≡◌, ℕ, ◌<◌, List, length, refl, sym, ap, ◌∙◌, subst}
-use Rattle.std.specs.List.{concat}
+use Rattle.std.proofs.Common.{◌≡◌, ℕ, ◌<◌, List, length, sym, subst}
 use Rattle.heap_words.specs.Trails.{WordList}
 use Rattle.word_states.specs.Trials.{AreReads, IsReadCommit, IsReadWait}
 use Rattle.word_states.specs.Words.{addresses_of}
 use Rattle.word_states.proofs.Lists.{among_addresses}
 use Rattle.suspension_lists.specs.Waking.{KeptWakes}
 use Rattle.page_layout.specs.Hangs.{threes}
-use Rattle.page_layout.specs.Laying.{cuts, IsLaid}
+use Rattle.page_layout.specs.Laying.{IsLaid}
 use Rattle.machine_code.specs.Compiling.{Tables}
-use Rattle.trial_machine.specs.declared.machine.Machine.{Machine}
-use Rattle.word_moves.specs.Planned.{ReadsProcess, IsPlannedCommit, IsPlannedHang}
 use Rattle.move_plans.specs.declared.planner.Planner.{Planner}
 use Rattle.move_plans.specs.Places.{HasPlaces}
 use Rattle.move_plans.specs.Rooms.{HasRoom}
 use Rattle.move_plans.specs.Sizes.{CellsRead}
-use Rattle.move_plans.specs.Stages.{sizes_of, PlansCommit, LaysCommit, LaysHang}
+use Rattle.move_plans.specs.Stages.{sizes_of, LaysCommit, LaysHang}
 use Rattle.move_plans.proofs.CommitCells.{cells_say}
 use Rattle.move_plans.proofs.Pieces.{cuts_whole, whole_total}
 use Rattle.move_plans.proofs.Reading.{process_more, number_more, place_unbound}

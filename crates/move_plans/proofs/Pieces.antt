@@ -1,9 +1,8 @@
 -- Pieces, cut from their words by their sizes.
-use Rattle.std.proofs.Common.{◌≡◌, ℕ, zero, suc, ◌+◌, ◌≤◌, Bool, true, false, cond, List, [], ◌∷◌, ◌++◌, length, map, take, drop, refl, sym}
-use Rattle.std.proofs.Common.{ap, ◌∙◌, arith, append_assoc}
+use Rattle.std.proofs.Common.{◌≡◌, ℕ, ◌+◌, List, [], ◌∷◌, ◌++◌, length, take, drop, refl, sym}
+use Rattle.std.proofs.Common.{ap, ◌∙◌, arith}
 use Rattle.std.specs.List.{concat}
 use Rattle.std.proofs.lemmas.List.{length-take-le, length-drop, length-append}
-use Rattle.word_states.specs.Pieces.{is_process, process_words}
 use Rattle.heap_words.specs.Trails.{WordList}
 use Rattle.word_states.specs.Planning.{commit_writes}
 use Rattle.page_layout.specs.declared.rooms.Room.{Room}

@@ -1,21 +1,19 @@
 -- What was laid and put is a plan, by the laws of moves.
-use Rattle.std.proofs.Common.{◌≡◌, ℕ, ◌+◌, ◌*◌, ◌/◌, ◌%◌, ◌<◌, List, refl, sym, ap, ◌∙◌, subst, arith, Some}
+use Rattle.std.proofs.Common.{◌≡◌, ℕ, ◌+◌, ◌%◌, ◌<◌, List, refl, sym, subst, arith}
 use Rattle.std.specs.Prelude.{pos}
 use Rattle.std.specs.List.{concat}
 use Rattle.fcp_model.specs.declared.run.Entry.{Entry}
-use Rattle.fcp_model.specs.declared.run.Entry.TheVariants.{Commit, Hang, Fail}
+use Rattle.fcp_model.specs.declared.run.Entry.TheVariants.{Commit, Hang}
 use Rattle.fcp_model.specs.declared.run.Proc.{Proc}
 use Rattle.heap_words.specs.Trails.{WordList, word_at}
 use Rattle.heap_words.specs.declared.cell.Cell.TheVariants.{Small, Status}
 use Rattle.heap_words.specs.declared.cell.Stand.TheVariants.{Ready}
-use Rattle.word_states.specs.Words.{At, addresses_of}
+use Rattle.word_states.specs.Words.{At}
 use Rattle.word_states.specs.Standing.{name_code}
 use Rattle.word_states.specs.Trials.{AreReads, TriedCommit}
 use Rattle.machine_code.specs.Compiling.{Tables}
 use Rattle.trial_machine.specs.declared.decide.Trial.TheVariants as trial
 use Rattle.trial_machine.specs.Deciding.{HandedOver, IsDecided, handed_over}
-use Rattle.page_layout.specs.declared.rooms.Room.{Room}
-use Rattle.page_layout.specs.Laying.{cuts}
 use Rattle.word_moves.specs.Planned.{process_of, ReadsProcess, CellsSay, IsCommitMove, IsHangMove, IsFailMove}
 use Rattle.word_moves.specs.Laws.{ACommitFits, AHangFits, AFailFits, ACommitIsSafe, AHangIsSafe, AFailIsSafe}
 use Rattle.move_plans.specs.declared.planner.Planner.{Planner}

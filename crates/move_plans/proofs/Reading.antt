@@ -1,13 +1,12 @@
 -- What single loads read.
-use Rattle.std.proofs.Common.{◌≡◌, ℕ, zero, suc, ◌+◌, ◌<◌, ◌≤◌, List, [], ◌∷◌, ◌++◌, length, take, refl, sym, ap, ◌∙◌, subst, inl, inr, ⊎_elim}
+use Rattle.std.proofs.Common.{◌≡◌, ℕ, zero, suc, ◌+◌, ◌<◌, List, [], ◌∷◌, ◌++◌, length, take, refl, sym, ap, ◌∙◌, subst, inl, inr, ⊎_elim}
 use Rattle.std.proofs.Common.{Option, Some, None, get_or, arith}
 use Rattle.std.proofs.lemmas.List.{take_more}
 use Rattle.std.proofs.lemmas.Option.{same_Some}
 use Rattle.heap_words.specs.Cells.{decoded}
 use Rattle.heap_words.specs.Trails.{WordList, word_at, AreOnce}
 use Rattle.heap_words.specs.WordsLaws.{WordsLaws}
-use Rattle.heap_words.specs.declared.cell.Cell.{Cell}
-use Rattle.heap_words.specs.declared.cell.Cell.TheVariants.{Unbound, Status}
+use Rattle.heap_words.specs.declared.cell.Cell.TheVariants.{Unbound}
 use Rattle.heap_words.specs.declared.cell.Stand.TheVariants.{Ready}
 use Rattle.word_states.specs.Led.{ReadsPlace}
 use Rattle.word_states.specs.Trials.{AreReads}

@@ -1,12 +1,9 @@
 -- What was decided stands where more is read.
-use Rattle.std.proofs.Common.{◌≡◌, ◌⊎◌, ℕ, ◌+◌, ◌<◌, Bool, true, List, ◌∷◌, refl, sym, ap, ◌∙◌, ⊎_elim, inl, inr, subst, arith, Option, Some, None}
-use Rattle.std.specs.Prelude.{slice_get}
+use Rattle.std.proofs.Common.{◌≡◌, ℕ, ◌+◌, List, ◌∷◌, refl, sym, ap, ◌∙◌, inl, inr, subst, arith, Option, Some, None}
 use Rattle.std.proofs.lemmas.Option.{same_Some}
 use Rattle.fcp_model.specs.Places.{Variable}
 use Rattle.fcp_model.specs.Terms.{Bindings}
 use Rattle.fcp_model.specs.Programs.{Goal}
-use Rattle.heap_words.specs.Cells.{decoded}
-use Rattle.heap_words.specs.Refers.{Reaches, teller, ReachesBy}
 use Rattle.heap_words.specs.Trails.{WordList, word_at}
 use Rattle.heap_words.specs.declared.cell.Cell.{Cell}
 use Rattle.heap_words.specs.declared.cell.Cell.TheVariants.{Unbound, Ref, RoRef, Small, Wide, Str, Nil, Cons, Tuple, Status, Raw, Top}
@@ -14,14 +11,14 @@ use Rattle.word_states.specs.Words.{Words, Has, Among, over, first_of}
 use Rattle.word_states.specs.Denoting.{Addresses}
 use Rattle.word_states.specs.Pieces.{rows, RefersOwn}
 use Rattle.word_states.specs.Led.{IsKnown, read_at, reached, reached_by, of_process, IsLed, was_read, of_known, LeadsOn, AreLed, ReadsPlace}
-use Rattle.word_states.specs.Tame.{Leads, Edge, trial_words, IsTame}
+use Rattle.word_states.specs.Tame.{Leads, trial_words, IsTame}
 use Rattle.word_states.specs.Trials.{IsTried, AreReads, IsReadCommit, IsReadWait}
 use Rattle.word_states.proofs.Lists.{word_among, apart_word}
 use Rattle.word_states.proofs.Pieces.{rows_in}
 use Rattle.machine_code.specs.Compiling.{Tables}
 use Rattle.trial_machine.specs.declared.decide.Trial.{Trial}
 use Rattle.trial_machine.specs.declared.decide.Trial.TheVariants.{Commit, Wait, Fails}
-use Rattle.trial_machine.specs.Deciding.{HandedOver, IsHandedOver, Says, IsDecided}
+use Rattle.trial_machine.specs.Deciding.{HandedOver, IsDecided}
 use Rattle.move_plans.specs.Stages.{rereads}
 
 -- more was read
@@ -115,8 +112,15 @@ module _ (kept kept' : WordList) (grows : Grows kept kept') where
         met = λ a w. (let m = h.walk.met a w in (m.0, seen_more a m.0 m.1));
         falls = λ a b w e.
             let was = seen_same a e.0 (h.walk.met a w) e.2 in
-            h.walk.falls a b w (e.0, e.1, was, e.3, e.4, leads_same e.1 b
-            (λ t c. h.walk.counts a e.0 t w was (e.4 ∙ ap Some c)) e.5);
+            h.walk.falls a b w (
+              e.0,
+              e.1,
+              was,
+              e.3,
+              e.4,
+              leads_same e.1 b
+                  (λ t c. h.walk.counts a e.0 t w was (e.4 ∙ ap Some c)) e.5,
+            );
         counts = λ a x t w e d.
             let m = h.walk.counts a x t w (seen_same a x (h.walk.met a w) e) d in (m.0, seen_more t m.0 m.1);
         low = h.walk.low;

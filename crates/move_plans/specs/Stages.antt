@@ -2,11 +2,10 @@
 use Rattle.std.specs.Prelude.{◌≡◌, ℕ, List, length, map}
 use Rattle.std.specs.List.{concat}
 use Rattle.fcp_model.specs.Programs.{Program}
-use Rattle.heap_words.specs.Trails.{WordList, word_at}
+use Rattle.heap_words.specs.Trails.{WordList}
 use Rattle.word_states.specs.Words.{addresses_of}
 use Rattle.page_layout.specs.Looking.{Rise}
 use Rattle.machine_code.specs.Compiling.{Tables}
-use Rattle.trial_machine.specs.declared.machine.Machine.{Machine}
 use Rattle.trial_machine.specs.Deciding.{HandedOver, IsCodeOf}
 use Rattle.word_moves.specs.Planned.{ReadsProcess, CellsSay, IsPlannedCommit, IsPlannedHang}
 use Rattle.move_plans.specs.declared.planner.Planner.{Planner}

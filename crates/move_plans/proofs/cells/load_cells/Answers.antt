@@ -13,7 +13,7 @@ returns-clause-cells g c = (
   c.in_ok-procedure.procedure,
   c.in_ok-count.count,
   number_more c.load_number.new.trail.kept c.load_number-2.new.trail.kept _ c.in_ok-procedure.procedure c.in_ok-count.ensures.loaded.grows
-  c.in_ok-procedure.ensures.number,
+      c.in_ok-procedure.ensures.number,
   c.in_ok-count.ensures.number,
   c.cells_if.ensures,
 )
