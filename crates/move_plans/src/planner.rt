@@ -1,9 +1,9 @@
 //! What is made once for all plans. A list keeps its memory from one plan to the next.
 
+use crate::woken::Wakers;
 use fcp_model::Entry;
 use heap_words::Stand;
 use page_layout::{Room, Written};
-use suspension_lists::Sleepers;
 use trial_machine::Machine;
 
 /// The machine and the lists of a plan.
@@ -23,7 +23,7 @@ pub struct Planner {
     pub waits: Vec<u32>,
     /// The page from which on room is looked for: those before it were nearly full.
     pub open: u32,
-    pub(crate) sleepers: Sleepers,
+    pub(crate) wakers: Wakers,
     pub(crate) rooms: Vec<Room>,
     pub(crate) table: Vec<u32>,
     pub(crate) lists: Vec<(u32, u32)>,

@@ -11,11 +11,7 @@ use heap_words::{Cell, Trail, Words, decode};
 use try_desk::is_term;
 
 /// Loads and keeps the word at a known address, where nothing is bound.
-pub(crate) fn load_word<W: Words>(
-    trail: &mut Trail,
-    words: &mut W,
-    addr: u32,
-) -> Result<u64, NoMemory>
+pub fn load_word<W: Words>(trail: &mut Trail, words: &mut W, addr: u32) -> Result<u64, NoMemory>
     requires stored { IsStored W.addresses W.sound W.had W.shown W.later trail.old.kept words.old }
     requires free { trail.old.binds ≡ [] }
     requires known { W.knows words.old addr }
@@ -31,7 +27,7 @@ pub(crate) fn load_word<W: Words>(
 }
 
 /// The number whose word stands at a known address, where nothing is bound; `None` where another word stands there.
-fn load_number<W: Words>(
+pub fn load_number<W: Words>(
     trail: &mut Trail,
     words: &mut W,
     addr: u32,

@@ -20,4 +20,6 @@ mod trial;
 mod unify;
 
 pub use decide::Trial;
+pub use goal::{load_number, load_word};
 pub use machine::Machine;
+pub use places::Places;

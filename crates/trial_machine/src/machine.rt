@@ -11,10 +11,10 @@ use try_desk::Desk;
 /// the clause in hand has; and the work lists of unification, of tests and of stored expressions.
 #[derive(Drop)]
 pub struct Machine {
-    pub(crate) desk: Desk,
-    pub(crate) trail: Trail,
-    pub(crate) waits: Places,
-    pub(crate) binds: Vec<(u32, u64)>,
+    pub desk: Desk,
+    pub trail: Trail,
+    pub waits: Places,
+    pub binds: Vec<(u32, u64)>,
     pub(crate) base: u32,
     pub(crate) vars: u8,
     pub(crate) work: WorkLists,

@@ -1,5 +1,5 @@
 -- A commit that is planned is legal, and tells what it does.
-use Rattle.std.proofs.Common.{◌≡◌, ℕ, suc, true, false, List, [], ◌++◌, length, map, refl, sym, ap, ◌∙◌, subst, arith, true≢false}
+use Rattle.std.proofs.Common.{◌≡◌, ℕ, suc, true, false, List, ◌++◌, length, map, refl, sym, ap, ◌∙◌, subst, arith, true≢false}
 use Rattle.std.proofs.Common.{Some, length-append}
 use Rattle.std.proofs.lemmas.Bool.{cond-true, cond-false}
 use Rattle.fcp_model.specs.declared.run.Entry.TheVariants.{Commit}
@@ -14,12 +14,12 @@ use Rattle.fcp_model.specs.Events.{Event, wake, with_status, is_woken, made_read
 use Rattle.fcp_model.specs.Runs.{next}
 use Rattle.heap_words.specs.Heaps.{inside_at}
 use Rattle.heap_words.specs.Trails.{WordList}
-use Rattle.word_states.specs.Words.{Words, HasAll, over, addresses_of}
+use Rattle.word_states.specs.Words.{Words, over}
 use Rattle.word_states.specs.Layouts.{CommitLaid, fresh_places, born_at}
 use Rattle.word_states.specs.Planning.{commit_writes}
 use Rattle.word_states.specs.Standing.{Book, StandsAt, ProcessAt}
 use Rattle.word_states.specs.Trials.{TriedCommit}
-use Rattle.word_states.specs.Going.{Move, MayGo, GoesOn, Fits}
+use Rattle.word_states.specs.Going.{MayGo, GoesOn, Fits}
 use Rattle.word_states.proofs.Lists.{listed_left}
 use Rattle.word_states.proofs.Persisting.{map_stands, map_length}
 use Rattle.word_state_laws.specs.Laws.{MayMove, CommitGoes, book_after}
@@ -31,40 +31,12 @@ use Rattle.page_layout.specs.Laying.{moved_to, cuts, tops_of}
 use Rattle.page_layout.proofs.Sizes.{cuts_sized}
 use Rattle.page_layout.proofs.Finding.{kept_found}
 use Rattle.page_layout.proofs.CommitWrites.{commit_planned}
-use Rattle.word_moves.specs.Planned.{process_of, CellsSay, IsPlannedCommit, IsCommitMove}
+use Rattle.word_moves.specs.Planned.{process_of, CellsSay, IsPlannedCommit}
 use Rattle.word_moves.specs.Laws.{ACommitFits}
+use Rattle.word_moves.proofs.Moves.{the_commit, is_commit}
 use Rattle.word_moves.proofs.Processes.{stays_as, moving}
 use Rattle.word_moves.proofs.Finding.{finds_commit}
 use Rattle.word_moves.proofs.Woken.{all_at, woken_at}
-
--- the move of this commit
-abbrev pub the_commit : WordList → ℕ → ℕ → ℕ → WordList → List ℕ → List ℕ → List ℕ → List Room → List ℕ → ℕ → Move
-the_commit kept p z k binds sizes own wakes rooms table cells = record {
-  process = p;
-  entry = Commit (process_of z) k;
-  reads = kept;
-  writes = λ n. commit_writes (moved_to table) n p binds (cuts sizes own) wakes (tops_of rooms);
-  cells = cells;
-  children = born_at (moved_to table) (cuts sizes own);
-  woken = wakes;
-  bound = addresses_of binds;
-  waits = [];
-}
-
-pub is_commit : {v : Move} {kept : WordList} {p z k : ℕ} {binds : WordList} {sizes own wakes : List ℕ} {rooms : List Room}
-    {table : List ℕ} → IsCommitMove v kept p z k binds sizes own wakes rooms table
-    → v ≡ the_commit kept p z k binds sizes own wakes rooms table v.cells
-is_commit {v = v} h = λ i. record {
-  process = h.process i;
-  entry = h.entry i;
-  reads = h.reads i;
-  writes = λ n. h.writes n i;
-  cells = v.cells;
-  children = h.children i;
-  woken = h.woken i;
-  bound = h.bound i;
-  waits = h.waits i;
-}
 
 -- a process that is Ready is not woken
 ready_sleeps : (bs : Bindings) (st : Status) → is_ready st ≡ true → is_woken bs st ≡ false
@@ -119,7 +91,7 @@ module _ {kept : WordList} {p z k : ℕ} {binds : WordList} {sizes own wakes : L
   not_mover : (q : ℕ) (y : Process) → ProcessAt book s q y → is_woken outcome.says.bindings y.status ≡ true → q ≡ p → ⊥
   not_mover q y h t e =
       let same : y ≡ mover.0 = (may.stands.once q p y mover.0 h mover.1.process).1 e in
-      true≢false (sym t ∙ ap (λ (v : Process). is_woken outcome.says.bindings v.status) same ∙ ap (is_woken outcome.says.bindings) mover.1.is_ready)
+      true≢false (sym t ∙ ap (is_woken outcome.says.bindings) (ap (λ (v : Process). v.status) same ∙ mover.1.is_ready))
 
   child_at : (q : ℕ) (y : Process) → StandsAt born children q y → ProcessAt book' event.after q y
   child_at q y h = stands_right book.processes born (map become s.processes) children q y

@@ -1,5 +1,5 @@
 -- A hang that is planned is legal, and tells what it does; so is a fail.
-use Rattle.std.proofs.Common.{◌≡◌, ℕ, suc, ◌*◌, true, List, [], length, map, Some, refl, sym, ap, ◌∙◌, subst, arith, true≢false}
+use Rattle.std.proofs.Common.{◌≡◌, ℕ, suc, ◌*◌, List, [], map, Some, refl, sym, ap, ◌∙◌, subst, arith, true≢false}
 use Rattle.std.proofs.lemmas.List.{length-map}
 use Rattle.fcp_model.specs.declared.run.Entry.TheVariants.{Hang, Fail}
 use Rattle.fcp_model.specs.declared.run.Proc.{Proc}
@@ -14,9 +14,9 @@ use Rattle.heap_words.specs.Trails.{WordList}
 use Rattle.word_states.specs.Words.{Words, over, addresses_of}
 use Rattle.word_states.specs.Layouts.{HangLaid}
 use Rattle.word_states.specs.Planning.{hang_writes}
-use Rattle.word_states.specs.Standing.{Book, StandsAt, ProcessAt}
+use Rattle.word_states.specs.Standing.{Book, StandsAt}
 use Rattle.word_states.specs.Trials.{WaitSays, FailSays, TriedWait, TriedFail}
-use Rattle.word_states.specs.Going.{Move, MayGo, GoesOn, Fits}
+use Rattle.word_states.specs.Going.{MayGo, GoesOn, Fits}
 use Rattle.word_states.proofs.Persisting.{map_stands}
 use Rattle.word_state_laws.specs.Laws.{MayMove, GoesBy}
 use Rattle.word_state_laws.proofs.HangPlans.{hang_laid}
@@ -27,38 +27,11 @@ use Rattle.page_layout.specs.Hangs.{entry_of}
 use Rattle.page_layout.specs.Openings.{FindsHang}
 use Rattle.page_layout.proofs.Finding.{kept_found}
 use Rattle.page_layout.proofs.HangWrites.{hang_planned}
-use Rattle.word_moves.specs.Planned.{process_of, ReadsProcess, IsPlannedHang, IsHangMove, IsFailMove}
+use Rattle.word_moves.specs.Planned.{process_of, ReadsProcess, IsPlannedHang}
 use Rattle.word_moves.specs.Laws.{AHangFits, AFailFits}
+use Rattle.word_moves.proofs.Moves.{the_hang, is_hang, the_fail, is_fail}
 use Rattle.word_moves.proofs.Processes.{stays_as, moving}
 use Rattle.word_moves.proofs.Finding.{finds_hang}
-
--- the move of this hang
-abbrev pub the_hang : WordList → ℕ → ℕ → WordList → List Room → List ℕ → Move
-the_hang kept p z lists rooms table = record {
-  process = p;
-  entry = Hang (process_of z);
-  reads = kept;
-  writes = λ n. hang_writes (entry_of table lists) n p lists (tops_of rooms);
-  cells = 3 * length lists;
-  children = [];
-  woken = [];
-  bound = [];
-  waits = addresses_of lists;
-}
-
-pub is_hang : {v : Move} {kept : WordList} {p z : ℕ} {lists : WordList} {rooms : List Room} {table : List ℕ}
-    → IsHangMove v kept p z lists rooms table → v ≡ the_hang kept p z lists rooms table
-is_hang h = λ i. record {
-  process = h.process i;
-  entry = h.entry i;
-  reads = h.reads i;
-  writes = λ n. h.writes n i;
-  cells = h.cells i;
-  children = h.children i;
-  woken = h.woken i;
-  bound = h.bound i;
-  waits = h.waits i;
-}
 
 module _ {kept : WordList} {p z : ℕ} {lists : WordList} {rooms : List Room} {table : List ℕ}
     (planned : IsPlannedHang kept p z lists rooms table) {m : Program} (trial : TriedWait m kept p (addresses_of lists)) {book : Book}
@@ -116,33 +89,6 @@ module _ {kept : WordList} {p z : ℕ} {lists : WordList} {rooms : List Room} {t
 pub hang_fits : AHangFits
 hang_fits v kept p z lists rooms table planned is m trial =
     subst (Fits m) (sym (is_hang is)) (λ book ws s may. hang_on planned trial may)
-
--- the move of this fail
-abbrev pub the_fail : WordList → ℕ → ℕ → Move
-the_fail kept p z = record {
-  process = p;
-  entry = Fail (process_of z);
-  reads = kept;
-  writes = λ n. [];
-  cells = 0;
-  children = [];
-  woken = [];
-  bound = [];
-  waits = [];
-}
-
-pub is_fail : {v : Move} {kept : WordList} {p z : ℕ} → IsFailMove v kept p z → v ≡ the_fail kept p z
-is_fail h = λ i. record {
-  process = h.process i;
-  entry = h.entry i;
-  reads = h.reads i;
-  writes = λ n. h.writes n i;
-  cells = h.cells i;
-  children = h.children i;
-  woken = h.woken i;
-  bound = h.bound i;
-  waits = h.waits i;
-}
 
 module _ {kept : WordList} {p z : ℕ} (reads : ReadsProcess kept p z) {m : Program} (trial : TriedFail m kept p) {book : Book}
     {ws : List ℕ} {s : State} (may : MayGo (the_fail kept p z) book ws s) where

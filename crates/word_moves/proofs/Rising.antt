@@ -1,5 +1,5 @@
 -- Two lists that rise strictly and have the same members are one.
-use Rattle.std.proofs.Common.{◌≡◌, ◌⊎◌, ℕ, List, [], ◌∷◌, refl, sym, ap₂, subst, ⊎_elim, inl, inr}
+use Rattle.std.proofs.Common.{◌≡◌, ◌⊎◌, ℕ, List, [], ◌∷◌, refl, sym, ap₂, subst, inl, inr}
 use Rattle.word_states.specs.Words.{IsIn}
 
 module _ (Before : ℕ → ℕ → Type 0) (apart : (a b : ℕ) → Before a b → Before b a → ⊥) where

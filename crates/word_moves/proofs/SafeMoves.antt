@@ -1,32 +1,27 @@
 -- A move that is planned is safe: its writes may follow, and are sound.
-use Rattle.std.proofs.Common.{◌≡◌, ℕ, ◌+◌, ◌*◌, ◌<◌, ◌≤◌, List, [], ◌++◌, length, refl, sym, subst, inl, arith}
-use Rattle.std.proofs.lemmas.Bool.{ne_eqb}
+use Rattle.std.proofs.Common.{ℕ, List, [], sym, subst, inl, arith}
 use Rattle.std.proofs.lemmas.List.{append-nil}
-use Rattle.heap_words.specs.Heaps.{IsHeap, inside_at, top_at}
-use Rattle.heap_words.specs.Trails.{WordList, word_at}
-use Rattle.heap_words.specs.declared.cell.Cell.TheVariants.{Status}
+use Rattle.heap_words.specs.Heaps.{IsHeap, inside_at}
+use Rattle.heap_words.specs.Trails.{WordList}
 use Rattle.heap_words.specs.declared.cell.Stand.TheVariants.{Ready}
-use Rattle.word_states.specs.Words.{At, Among, HasAll}
+use Rattle.word_states.specs.Words.{Among}
 use Rattle.word_states.specs.Led.{ReadsStatus}
-use Rattle.word_states.specs.Trials.{AreReads}
 use Rattle.word_states.specs.Writing.{MayWrite}
 use Rattle.word_states.proofs.Lists.{word_among}
 use Rattle.sound_entries.specs.Closed.{AreClosed}
 use Rattle.sound_entries.specs.Sound.{IsSound}
 use Rattle.sound_entries.proofs.Commits.{commit_sound}
 use Rattle.sound_entries.proofs.Hangs.{hang_sound}
-use Rattle.page_layout.specs.declared.rooms.Room.{Room}
 use Rattle.page_layout.specs.Laying.{moved_to, cuts, tops_of}
 use Rattle.page_layout.specs.Hangs.{entry_of}
 use Rattle.page_layout.proofs.Sizes.{cuts_sized}
 use Rattle.page_layout.proofs.Finding.{kept_found}
 use Rattle.page_layout.proofs.CommitWrites.{commit_planned, commit_may}
 use Rattle.page_layout.proofs.HangWrites.{hang_planned, hang_may}
-use Rattle.word_moves.specs.Planned.{ReadsProcess, IsPlannedCommit, IsPlannedHang, IsSafeMove}
+use Rattle.word_moves.specs.Planned.{ReadsProcess, IsSafeMove}
 use Rattle.word_moves.specs.Laws.{ACommitIsSafe, AHangIsSafe, AFailIsSafe}
+use Rattle.word_moves.proofs.Moves.{is_commit, is_hang, is_fail}
 use Rattle.word_moves.proofs.Finding.{pieces_named, finds_commit, finds_hang}
-use Rattle.word_moves.proofs.CommitFits.{the_commit, is_commit}
-use Rattle.word_moves.proofs.HangFits.{the_hang, is_hang, the_fail, is_fail}
 
 status_read : {kept : WordList} {p z : ℕ} → ReadsProcess kept p z → ReadsStatus kept p
 status_read {kept = kept} {p = p} reads =

@@ -1,6 +1,6 @@
 -- The woken of a commit, at their addresses, are those of its event, in order.
-use Rattle.std.proofs.Common.{◌≡◌, ◌⊎◌, ℕ, suc, ◌<◌, Bool, true, false, cond, List, [], ◌∷◌, length, map, refl, sym, ap, ◌∙◌, subst}
-use Rattle.std.proofs.Common.{⊎_elim, inl, inr, arith, true≢false}
+use Rattle.std.proofs.Common.{◌≡◌, ℕ, suc, Bool, true, false, cond, List, [], ◌∷◌, length, map, refl, sym, ap, ◌∙◌, subst}
+use Rattle.std.proofs.Common.{inl, inr, arith, true≢false}
 use Rattle.std.specs.Prelude.{filter}
 use Rattle.fcp_model.specs.Places.{is_older_process}
 use Rattle.fcp_model.specs.States.{Process, State}
@@ -8,7 +8,7 @@ use Rattle.fcp_model.specs.LawfulStates.{Each, NamesRise, IsOrdered}
 use Rattle.fcp_model.specs.Terms.{Bindings}
 use Rattle.fcp_model.specs.Events.{is_woken, woken_by}
 use Rattle.word_states.specs.Words.{Words, IsIn}
-use Rattle.word_states.specs.Standing.{Book, StandsAt, StandsFor, ProcessAt, name_code}
+use Rattle.word_states.specs.Standing.{Book, StandsAt, StandsFor, ProcessAt}
 use Rattle.word_states.specs.Waking.{AreByName, AreWoken}
 use Rattle.word_states.specs.Going.{AllAt}
 use Rattle.word_states.proofs.Persisting.{map_length, stands_map}

@@ -1,5 +1,5 @@
 -- The laws: a move that is planned is legal, and sound.
-use Rattle.std.specs.Prelude.{ℕ, List, ◌≡◌}
+use Rattle.std.specs.Prelude.{ℕ, List}
 use Rattle.fcp_model.specs.Programs.{Program}
 use Rattle.heap_words.specs.Trails.{WordList}
 use Rattle.word_states.specs.Words.{addresses_of}
@@ -7,7 +7,8 @@ use Rattle.word_states.specs.Trials.{AreReads, TriedCommit, TriedWait, TriedFail
 use Rattle.word_states.specs.Going.{Move, Fits}
 use Rattle.page_layout.specs.declared.rooms.Room.{Room}
 use Rattle.page_layout.specs.Laying.{cuts}
-use Rattle.word_moves.specs.Planned.{ReadsProcess, CellsSay, IsPlannedCommit, IsCommitMove, IsPlannedHang, IsHangMove, IsFailMove, IsSafeMove}
+use Rattle.word_moves.specs.Planned.{ReadsProcess, CellsSay, IsPlannedCommit, IsCommitMove}
+use Rattle.word_moves.specs.Planned.{IsPlannedHang, IsHangMove, IsFailMove, IsSafeMove}
 
 -- a commit fits each program for which it is decided
 abbrev pub ACommitFits : Type 0

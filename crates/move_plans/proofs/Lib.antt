@@ -1,0 +1,6 @@
+pub mod Rereading
+pub mod Reading
+pub mod Pieces
+pub mod CommitCells
+pub mod Laying
+pub mod Planning
