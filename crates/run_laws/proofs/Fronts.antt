@@ -126,7 +126,8 @@ next_is n m s Abort q y ev by f e = absurd by
 -- the processes behind the front are Ready, and have other names
 same_back : (p q : Proc) → is_same_process p q ≡ false → is_same_process q p ≡ false
 same_back p q e = ⊎_elim
-    (λ (t : is_same_process q p ≡ true). absurd (true≢false (sym (subst (λ (x : Proc). is_same_process p x ≡ true) (sym (same_process q p t))
+    (λ (t : is_same_process q p ≡ true). absurd (true≢false (sym (subst (λ (x : Proc). is_same_process p x ≡ true)
+    (sym (same_process q p t))
     (same_itself p)) ∙ e)))
     (λ (t : is_same_process q p ≡ false). t) (cases_Bool (is_same_process q p))
 
@@ -143,9 +144,11 @@ module _ (at : Schedule) (sound : IsSoundSchedule at) (y : Process) (ys : List P
       go : (zs : List Process) → Each (λ z. is_same_process z.name y.name ≡ false) zs → Each (λ z. process_named ys z.name ≡ Some z) zs
           → Each (λ z. is_ready z.status ≡ true) zs
       go [] a b = tt
-      go (z ∷ zs) a b =
-          (ap is_ready (sound.are_ready z.name z (ap (λ ps. process_named ps z.name) queue
-          ∙ (head_passed y ys z.name (same_back z.name y.name a.0) ∙ b.0))).1, go zs a.1 b.1)
+      go (z ∷ zs) a b = (
+        ap is_ready (sound.are_ready z.name z (ap (λ ps. process_named ps z.name) queue
+            ∙ (head_passed y ys z.name (same_back z.name y.name a.0) ∙ b.0))).1,
+        go zs a.1 b.1,
+      )
 
 -- they stay where they are
 module _ (book book' : Book) (w : Words) (s s' : State) (p : ℕ) (y : Process) (stands : StandsFor book w s) (there : ProcessAt book s p y)
@@ -155,6 +158,8 @@ module _ (book book' : Book) (w : Words) (s s' : State) (p : ℕ) (y : Process) 
   stay_behind [] [] h r n = tt
   stay_behind [] (z ∷ zs) h r n = absurd h
   stay_behind (q ∷ qs) [] h r n = absurd h
-  stay_behind (q ∷ qs) (z ∷ zs) h r n =
-      (stay q z h.0 r.0 (λ e. true≢false (sym (ap (λ (x : Process). is_same_process x.name y.name) ((stands.once q p z y h.0 there).1 e)
-      ∙ same_itself y.name) ∙ n.0)), stay_behind qs zs h.1 r.1 n.1)
+  stay_behind (q ∷ qs) (z ∷ zs) h r n = (
+    stay q z h.0 r.0 (λ e. true≢false (sym (ap (λ (x : Process). is_same_process x.name y.name) ((stands.once q p z y h.0 there).1 e)
+        ∙ same_itself y.name) ∙ n.0)),
+    stay_behind qs zs h.1 r.1 n.1,
+  )

@@ -67,14 +67,17 @@ module _ (m : Program) (limits : Limits) (from : State) (vars : ℕ) (ws rest : 
       low : (bs : Bindings) → g.goes.event.bindings ≡ bs → (j : Place) (t : Term Variable) → find bs (made j) ≡ Some t
           → j.entry < suc at.state.entries
       low bs is j t h =
-          let l = bound_listed book.places bs v.bound j t (subst (λ (x : Bindings). AreAt book.places v.bound (places_bound x)) is g.bound) h in
+          let l = bound_listed book.places bs v.bound j t
+          (subst (λ (x : Bindings). AreAt book.places v.bound (places_bound x)) is g.bound) h in
           omega (arith, r.stands.dated_places j l.0 l.1)
 
-      go : (d : Decision) → decide g.goes.steps m at.state.bound (front m limits from vars ws rest p c evs at book v r f).process.goal ≡ Some d
+      go : (d : Decision)
+          → decide g.goes.steps m at.state.bound (front m limits from vars ws rest p c evs at book v r f).process.goal ≡ Some d
           → g.goes.event ≡ event_of m at.state (front m limits from vars ws rest p c evs at book v r f).process d
           → BindsNew g.goes.book.places v.bound g.goes.event
       go (commits j bs rs) d is =
-          let new = commit_new g.goes.steps m at.state.bound (front m limits from vars ws rest p c evs at book v r f).process.goal j bs rs d in
+          let new = commit_new g.goes.steps m at.state.bound
+          (front m limits from vars ws rest p c evs at book v r f).process.goal j bs rs d in
           let same : g.goes.event.bindings ≡ bs = ap (λ (x : Event). x.bindings) is in
           record {
             places = at_stay book.places g.goes.book.places v.bound (places_bound g.goes.event.bindings) g.places_stay g.bound;

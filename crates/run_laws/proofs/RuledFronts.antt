@@ -12,7 +12,6 @@ use Rattle.fcp_model.specs.Events.{Event, event_of}
 use Rattle.fcp_model.specs.OneWorker.{Schedule, ends, passes, makes, is_over, is_due, control_ruling, after_event, front_ruling, queue_ruling, ruling}
 use Rattle.run_laws.specs.Running.{IsPlainSchedule}
 
-
 pub at_least_false : (a b : ℕ) → b < a → nat_le a b ≡ false
 at_least_false a b h = grind (arith, nat_tests)
 

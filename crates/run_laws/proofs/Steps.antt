@@ -34,7 +34,8 @@ parted t [] = refl
 parted t (x ∷ xs) = go (t x) (parted t xs)
   where
     go : (b : Bool) → length (filter t xs) + length (filter (λ y. not (t y)) xs) ≡ length xs
-        → length (cond b (x ∷ filter t xs) (filter t xs)) + length (cond (not b) (x ∷ filter (λ y. not (t y)) xs) (filter (λ y. not (t y)) xs))
+        → length (cond b (x ∷ filter t xs) (filter t xs))
+        + length (cond (not b) (x ∷ filter (λ y. not (t y)) xs) (filter (λ y. not (t y)) xs))
         ≡ suc (length xs)
     go true e = omega (arith, e)
     go false e = omega (arith, e)
@@ -171,25 +172,27 @@ module _ (m : Program) (limits : Limits) (from : State) (vars : ℕ) (ws rest : 
     pub passes_on : c.cells < v.cells
         → (to : Schedule) × StandsAt m limits from vars ws (rest ++ p ∷ []) (after_pass c) evs to book
     passes_on lacks =
-        let to : Schedule = record at { queue = front.behind ++ front.process ∷ []; passed = at.passed + 1 } in
-        (to, record {
-          ordered = r.ordered;
-          leads = led_on m limits (begin from []) at evs (passes to) g.goes.steps r.leads
-              (ruled_so ∙ ap Some (front_passes m limits at r.plain front.process front.behind front.queue g.goes.event
-              (omega (arith, lacks, r.cells, g.cells)))) refl;
-          plain = record { mode = r.plain.mode; controls = r.plain.controls };
-          heap = r.heap;
-          stands = r.stands;
-          queued = all_append book at.state rest (p ∷ []) front.behind (front.process ∷ []) front.others (front.at_front, tt);
-          variables = r.variables;
-          entries = r.entries;
-          moved = r.moved;
-          passed = omega (arith, r.passed);
-          asleep = r.asleep;
-          commits = r.commits;
-          moves = r.moves;
-          cells = r.cells;
-        })
+        let to : Schedule = record at { queue = front.behind ++ front.process ∷ []; passed = at.passed + 1 } in (
+          to,
+          record {
+            ordered = r.ordered;
+            leads = led_on m limits (begin from []) at evs (passes to) g.goes.steps r.leads
+                (ruled_so ∙ ap Some (front_passes m limits at r.plain front.process front.behind front.queue g.goes.event
+                (omega (arith, lacks, r.cells, g.cells)))) refl;
+            plain = record { mode = r.plain.mode; controls = r.plain.controls };
+            heap = r.heap;
+            stands = r.stands;
+            queued = all_append book at.state rest (p ∷ []) front.behind (front.process ∷ []) front.others (front.at_front, tt);
+            variables = r.variables;
+            entries = r.entries;
+            moved = r.moved;
+            passed = omega (arith, r.passed);
+            asleep = r.asleep;
+            commits = r.commits;
+            moves = r.moves;
+            cells = r.cells;
+          },
+        )
 
     -- the run ends with a fail
     pub fails_there : (q : Proc) → v.entry ≡ Fail q → FailedAt m limits from (evs ++ g.goes.event ∷ []) at.state c
@@ -263,23 +266,26 @@ module _ (m : Program) (limits : Limits) (from : State) (vars : ℕ) (ws rest : 
         (evs ++ ev ∷ []) at' g.goes.book × (length v.woken ≤ c.asleep)
     commits_on q k e =
         let l = commit_leaves q k e by.decision by.is in
-        let counted : one (is_commit ev.entry) ≡ 1 = ap (λ (x : Entry). one (is_commit x)) (by.has ∙ e) in
-        (to, record {
-          ordered = r.ordered;
-          leads = leads_on (inside_at ws') g enough;
-          plain = record { mode = l.0 ∙ r.plain.mode; controls = r.plain.controls };
-          heap = heap;
-          stands = g.goes.stands;
-          queued = queue_after;
-          variables = λ i a b. g.places_stay _ _ (r.variables i a b);
-          entries = omega (arith, l.1, r.entries);
-          moved = omega (arith, r.moved);
-          passed = refl;
-          asleep = omega (arith, l.2, woken_count, r.asleep);
-          commits = omega (arith, counted, f.commits, r.commits);
-          moves = omega (arith, f.moves, r.moves);
-          cells = omega (arith, enough, g.cells, r.cells);
-        }, omega (arith, l.2, woken_count, r.asleep))
+        let counted : one (is_commit ev.entry) ≡ 1 = ap (λ (x : Entry). one (is_commit x)) (by.has ∙ e) in (
+          to,
+          record {
+            ordered = r.ordered;
+            leads = leads_on (inside_at ws') g enough;
+            plain = record { mode = l.0 ∙ r.plain.mode; controls = r.plain.controls };
+            heap = heap;
+            stands = g.goes.stands;
+            queued = queue_after;
+            variables = λ i a b. g.places_stay _ _ (r.variables i a b);
+            entries = omega (arith, l.1, r.entries);
+            moved = omega (arith, r.moved);
+            passed = refl;
+            asleep = omega (arith, l.2, woken_count, r.asleep);
+            commits = omega (arith, counted, f.commits, r.commits);
+            moves = omega (arith, f.moves, r.moves);
+            cells = omega (arith, enough, g.cells, r.cells);
+          },
+          omega (arith, l.2, woken_count, r.asleep),
+        )
 
     hang_leaves : (q : Proc) → v.entry ≡ Hang q → (d : Decision) → ev ≡ event_of m at.state front.process d
         → (ev.after.mode ≡ at.state.mode) × (ev.after.entries ≡ suc at.state.entries)
@@ -303,20 +309,22 @@ module _ (m : Program) (limits : Limits) (from : State) (vars : ℕ) (ws rest : 
         → (at' : Schedule) × StandsAt m limits from vars ws' rest (after_hang c v.cells) (evs ++ ev ∷ []) at' g.goes.book
     hangs_on q e =
         let l = hang_leaves q e by.decision by.is in
-        let counted : one (is_commit ev.entry) ≡ 0 = ap (λ (x : Entry). one (is_commit x)) (by.has ∙ e) in
-        (to, record {
-          ordered = r.ordered;
-          leads = leads_on (inside_at ws') g enough;
-          plain = record { mode = l.0 ∙ r.plain.mode; controls = r.plain.controls };
-          heap = heap;
-          stands = g.goes.stands;
-          queued = subst (AllAt g.goes.book ev.after rest) (sym l.3) (others_stay (inside_at ws') g);
-          variables = λ i a b. g.places_stay _ _ (r.variables i a b);
-          entries = omega (arith, l.1, r.entries);
-          moved = omega (arith, r.moved);
-          passed = refl;
-          asleep = omega (arith, l.2, r.asleep);
-          commits = omega (arith, counted, r.commits);
-          moves = omega (arith, f.moves, r.moves);
-          cells = omega (arith, enough, g.cells, r.cells);
-        })
+        let counted : one (is_commit ev.entry) ≡ 0 = ap (λ (x : Entry). one (is_commit x)) (by.has ∙ e) in (
+          to,
+          record {
+            ordered = r.ordered;
+            leads = leads_on (inside_at ws') g enough;
+            plain = record { mode = l.0 ∙ r.plain.mode; controls = r.plain.controls };
+            heap = heap;
+            stands = g.goes.stands;
+            queued = subst (AllAt g.goes.book ev.after rest) (sym l.3) (others_stay (inside_at ws') g);
+            variables = λ i a b. g.places_stay _ _ (r.variables i a b);
+            entries = omega (arith, l.1, r.entries);
+            moved = omega (arith, r.moved);
+            passed = refl;
+            asleep = omega (arith, l.2, r.asleep);
+            commits = omega (arith, counted, r.commits);
+            moves = omega (arith, f.moves, r.moves);
+            cells = omega (arith, enough, g.cells, r.cells);
+          },
+        )

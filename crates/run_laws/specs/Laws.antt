@@ -37,7 +37,7 @@ ACommitLeadsOn = (m : Program) (limits : Limits) (from : State) (vars : ℕ) (ws
     (at : Schedule) (book : Book) (v : Move) (q : Proc) (k : ℕ) → StandsAt m limits from vars ws (p ∷ rest) c evs at book
     → IsFront v ws p rest c → (g : GoesOn m v book at.state (inside_at ws')) → v.entry ≡ Commit q k → v.cells ≤ c.cells → IsHeap ws'
     → (to : Schedule) × StandsAt m limits from vars ws' (rest ++ v.children ++ v.woken) (after_commit c (length v.woken) v.cells)
-        (evs ++ g.goes.event ∷ []) to g.goes.book × (length v.woken ≤ c.asleep)
+    (evs ++ g.goes.event ∷ []) to g.goes.book × (length v.woken ≤ c.asleep)
 
 -- behind a hang of the front the others stand in the queue
 abbrev pub AHangLeadsOn : Type 0
@@ -78,7 +78,7 @@ AHangWaitsByAge = (m : Program) (limits : Limits) (from : State) (vars : ℕ) (w
     (at : Schedule) (book : Book) (v : Move) (w' : Words) (q : Proc) → StandsAt m limits from vars ws (p ∷ rest) c evs at book
     → IsFront v ws p rest c → (g : GoesOn m v book at.state w') → v.entry ≡ Hang q
     → WaitsByAge g.goes.event × ArePlaces g.goes.book.places v.waits g.goes.event.waits_for
-        × (g.goes.event.after.entries ≡ c.entries + 1) × (g.goes.event.entry ≡ Hang q)
+    × (g.goes.event.after.entries ≡ c.entries + 1) × (g.goes.event.entry ≡ Hang q)
 
 -- in words that stand for a goal's first state the run stands at its beginning
 abbrev pub ABeginningStands : Type 0

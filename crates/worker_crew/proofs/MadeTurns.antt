@@ -163,25 +163,32 @@ module _ (t : Task) (task : IsTask t) (p : ℕ) (old mid : Engine) (r : IsReache
           settled = λ j u h. b.0.settled j u h ∙ ap (λ (x : ℕ). Some (rename (settle x) u)) number;
           once = λ j u h i i' a a'. b.0.once j a a' i i';
           woken_at = subst (λ (xs : List ℕ). AllAt g.goes.book g.goes.event.after xs (map made_ready g.goes.event.woken)) m.tells.woken g.woken;
-        } in
-        (record {
-          events = r.events ++ g.goes.event ∷ [];
-          at = l.0;
-          book = g.goes.book;
-          rest = d.leaves.rest;
-          log = ap length (d.leaves.hall.log ∙ m.is_added.log) ∙ omega (arith, r.log, d.leaves.entries, same.entries,
-              length-append old.hall.log.items (e.entry ∷ []));
-          few = omega (arith, d.asleep, d.leaves.entries, same.asleep, same.entries, r.few);
-          stands = subst (λ (xs : List ℕ). StandsAt program t.limits from (variables_of t) xs new.queue.items (counts_of new)
-              (r.events ++ g.goes.event ∷ []) l.0 g.goes.book) (sym d.leaves.hall.words)
-              (subst (λ (xs : List ℕ). StandsAt program t.limits from (variables_of t) ws' xs (counts_of new)
-              (r.events ++ g.goes.event ∷ []) l.0 g.goes.book) queue
-              (subst (λ (x : Counts). StandsAt program t.limits from (variables_of t) ws' (old.queue.items ++ v.children ++ v.woken) x
-              (r.events ++ g.goes.event ∷ []) l.0 g.goes.book) counts l.1));
-          lines = line_added t.names.now r.events g.goes.event log_head mid.text.items new.text.items
-              (subst (λ (x : Bytes). Adds log_head x (λ n. event_lines n t.names.now r.events)) (sym same.text) r.lines)
-              (d.line g.goes.book g.goes.event q k (sym m.tells.entry ∙ entry_is) there);
-        }, omega (arith, moves_now, room.moves))
+        } in (
+          record {
+            events = r.events ++ g.goes.event ∷ [];
+            at = l.0;
+            book = g.goes.book;
+            rest = d.leaves.rest;
+            log = ap length (d.leaves.hall.log ∙ m.is_added.log) ∙ omega (
+              arith,
+              r.log,
+              d.leaves.entries,
+              same.entries,
+              length-append old.hall.log.items (e.entry ∷ []),
+            );
+            few = omega (arith, d.asleep, d.leaves.entries, same.asleep, same.entries, r.few);
+            stands = subst (λ (xs : List ℕ). StandsAt program t.limits from (variables_of t) xs new.queue.items (counts_of new)
+                (r.events ++ g.goes.event ∷ []) l.0 g.goes.book) (sym d.leaves.hall.words)
+                (subst (λ (xs : List ℕ). StandsAt program t.limits from (variables_of t) ws' xs (counts_of new)
+                (r.events ++ g.goes.event ∷ []) l.0 g.goes.book) queue
+                (subst (λ (x : Counts). StandsAt program t.limits from (variables_of t) ws' (old.queue.items ++ v.children ++ v.woken) x
+                (r.events ++ g.goes.event ∷ []) l.0 g.goes.book) counts l.1));
+            lines = line_added t.names.now r.events g.goes.event log_head mid.text.items new.text.items
+                (subst (λ (x : Bytes). Adds log_head x (λ n. event_lines n t.names.now r.events)) (sym same.text) r.lines)
+                (d.line g.goes.book g.goes.event q k (sym m.tells.entry ∙ entry_is) there);
+          },
+          omega (arith, moves_now, room.moves),
+        )
 
   module _ (q : Proc) (is : e.entry ≡ Hang q) where
     hangs : v.entry ≡ Hang q
@@ -227,22 +234,29 @@ module _ (t : Task) (task : IsTask t) (p : ℕ) (old mid : Engine) (r : IsReache
           number = number;
           places = subst (λ (xs : List ℕ). ArePlaces g.goes.book.places xs g.goes.event.waits_for) m.tells.waits b.1;
           by_age = b.0;
-        } in
-        (record {
-          events = r.events ++ g.goes.event ∷ [];
-          at = l.0;
-          book = g.goes.book;
-          rest = d.leaves.rest;
-          log = ap length (d.leaves.hall.log ∙ m.is_added.log) ∙ omega (arith, r.log, d.leaves.entries, same.entries,
-              length-append old.hall.log.items (e.entry ∷ []));
-          few = omega (arith, d.asleep, d.leaves.entries, same.asleep, same.entries, r.few);
-          stands = subst (λ (xs : List ℕ). StandsAt program t.limits from (variables_of t) xs new.queue.items (counts_of new)
-              (r.events ++ g.goes.event ∷ []) l.0 g.goes.book) (sym d.leaves.hall.words)
-              (subst (λ (xs : List ℕ). StandsAt program t.limits from (variables_of t) ws' xs (counts_of new)
-              (r.events ++ g.goes.event ∷ []) l.0 g.goes.book) (sym (d.queue ∙ same.queue))
-              (subst (λ (x : Counts). StandsAt program t.limits from (variables_of t) ws' old.queue.items x
-              (r.events ++ g.goes.event ∷ []) l.0 g.goes.book) counts l.1));
-          lines = line_added t.names.now r.events g.goes.event log_head mid.text.items new.text.items
-              (subst (λ (x : Bytes). Adds log_head x (λ n. event_lines n t.names.now r.events)) (sym same.text) r.lines)
-              (d.line g.goes.book g.goes.event q (sym m.tells.entry ∙ hangs) there);
-        }, omega (arith, moves_now, room.moves))
+        } in (
+          record {
+            events = r.events ++ g.goes.event ∷ [];
+            at = l.0;
+            book = g.goes.book;
+            rest = d.leaves.rest;
+            log = ap length (d.leaves.hall.log ∙ m.is_added.log) ∙ omega (
+              arith,
+              r.log,
+              d.leaves.entries,
+              same.entries,
+              length-append old.hall.log.items (e.entry ∷ []),
+            );
+            few = omega (arith, d.asleep, d.leaves.entries, same.asleep, same.entries, r.few);
+            stands = subst (λ (xs : List ℕ). StandsAt program t.limits from (variables_of t) xs new.queue.items (counts_of new)
+                (r.events ++ g.goes.event ∷ []) l.0 g.goes.book) (sym d.leaves.hall.words)
+                (subst (λ (xs : List ℕ). StandsAt program t.limits from (variables_of t) ws' xs (counts_of new)
+                (r.events ++ g.goes.event ∷ []) l.0 g.goes.book) (sym (d.queue ∙ same.queue))
+                (subst (λ (x : Counts). StandsAt program t.limits from (variables_of t) ws' old.queue.items x
+                (r.events ++ g.goes.event ∷ []) l.0 g.goes.book) counts l.1));
+            lines = line_added t.names.now r.events g.goes.event log_head mid.text.items new.text.items
+                (subst (λ (x : Bytes). Adds log_head x (λ n. event_lines n t.names.now r.events)) (sym same.text) r.lines)
+                (d.line g.goes.book g.goes.event q (sym m.tells.entry ∙ hangs) there);
+          },
+          omega (arith, moves_now, room.moves),
+        )

@@ -104,20 +104,24 @@ module _ (t : Task) (task : IsTask t) (p : ℕ) (old mid : Engine) (r : IsReache
       let counts : after_pass c ≡ counts_of new =
       same_counts _ (counts_of new) (omega (arith, d.passed, same.passed)) (sym (d.asleep ∙ same.asleep)) (sym (d.entries ∙ same.entries))
       (sym (ap (λ x. x.commits) spent)) (sym (ap (λ x. x.moves) spent)) (sym (ap (λ x. x.cells) spent)) in
-      let queue : new.queue.items ≡ old.queue.items ++ p ∷ [] = d.queue ∙ ap (λ (xs : List ℕ). xs ++ p ∷ []) same.queue in
-      (record {
-        events = r.events;
-        at = l.0;
-        book = r.book;
-        rest = subst IsAtRest (sym d.hall) rest;
-        log = ap (λ h. length h.log.items) d.hall ∙ (ap length silent.1 ∙ (r.log ∙ sym (d.entries ∙ same.entries)));
-        few = omega (arith, d.asleep, d.entries, same.asleep, same.entries, r.few);
-        stands = subst (λ (xs : List ℕ). StandsAt program t.limits from (variables_of t) xs new.queue.items (counts_of new) r.events l.0
-            r.book) (sym (ap (λ h. h.words.items) d.hall ∙ silent.0))
-            (subst (λ (xs : List ℕ). StandsAt program t.limits from (variables_of t) ws xs (counts_of new) r.events l.0 r.book) (sym queue)
-            (subst (λ (x : Counts). StandsAt program t.limits from (variables_of t) ws (old.queue.items ++ p ∷ []) x r.events l.0 r.book)
-            counts l.1));
-        lines = subst (λ (x : Bytes). Adds log_head x (λ n. event_lines n t.names.now r.events)) (sym (ap (λ x. x.items) d.text ∙ same.text))
-            r.lines;
-      }, ap (λ x. x.moves) spent, ap length queue ∙ length_push old.queue.items p ∙ omega arith, omega (arith, d.passed, same.passed),
-      omega (arith, room.passed))
+      let queue : new.queue.items ≡ old.queue.items ++ p ∷ [] = d.queue ∙ ap (λ (xs : List ℕ). xs ++ p ∷ []) same.queue in (
+        record {
+          events = r.events;
+          at = l.0;
+          book = r.book;
+          rest = subst IsAtRest (sym d.hall) rest;
+          log = ap (λ h. length h.log.items) d.hall ∙ (ap length silent.1 ∙ (r.log ∙ sym (d.entries ∙ same.entries)));
+          few = omega (arith, d.asleep, d.entries, same.asleep, same.entries, r.few);
+          stands = subst (λ (xs : List ℕ). StandsAt program t.limits from (variables_of t) xs new.queue.items (counts_of new) r.events l.0
+              r.book) (sym (ap (λ h. h.words.items) d.hall ∙ silent.0))
+              (subst (λ (xs : List ℕ). StandsAt program t.limits from (variables_of t) ws xs (counts_of new) r.events l.0 r.book) (sym queue)
+              (subst (λ (x : Counts). StandsAt program t.limits from (variables_of t) ws (old.queue.items ++ p ∷ []) x r.events l.0 r.book)
+              counts l.1));
+          lines = subst (λ (x : Bytes). Adds log_head x (λ n. event_lines n t.names.now r.events)) (sym (ap (λ x. x.items) d.text ∙ same.text))
+              r.lines;
+        },
+        ap (λ x. x.moves) spent,
+        ap length queue ∙ length_push old.queue.items p ∙ omega arith,
+        omega (arith, d.passed, same.passed),
+        omega (arith, room.passed),
+      )

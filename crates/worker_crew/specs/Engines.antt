@@ -118,7 +118,7 @@ AreVariablesInUse t ws = (k : ℕ) → 1 ≤ k → k ≤ variables_of t → IsPl
 abbrev pub AddsEnd : Task → Engine → Outcome → Bytes → Type 0
 AddsEnd t e o new = (book : Book) (s : State) → StandsFor book (inside_at e.hall.words.items) s → AreGoalPlaces book (variables_of t)
     → Adds (e.text.items ++ end_line e.entries ++ outcome_line o) new
-        (λ n. variable_lines n t.names.now s.bound (goal_variables t.goal.now.0.names))
+    (λ n. variable_lines n t.names.now s.bound (goal_variables t.goal.now.0.names))
 
 -- what a line's call asks of the engine: a hall at rest, the words that it reads, and a number for the entry
 pub record MayNote (e : Engine) (places processes : List ℕ) : Type 0 where

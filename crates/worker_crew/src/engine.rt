@@ -3,7 +3,7 @@ ghost use Rattle.std.specs.Prelude.{◌≡◌, ◌<◌, ◌||◌, ◌+◌, ◌++
 ghost use Rattle.commit_engine.specs.Turns.{IsCommit, IsHang, IsFail};
 ghost use Rattle.worker_crew.specs.Engines.{IsTask, IsReached, RuleGives, MayNote, NotesCommit, NotesHang, NotesFail, Passes};
 
-use commit_engine::{PlainHall, Spent, Turn, turn};
+use commit_engine::{Hall, PlainHall, Spent, Turn, turn};
 use entry_lines::{push_commit_line, push_hang_line};
 use fcp_model::log_lines::push_fail_line;
 use fcp_model::{Entry, Limits, Loaded, LoadedGoal, Names, NoMemory};
@@ -64,6 +64,14 @@ fn put_behind(queue: &mut VecDeque<u32>, addresses: &[u32]) -> Result<(), NoMemo
     Ok(())
 }
 
+/// Puts the addresses of one list at the back of a queue, and then those of another one.
+fn put_both(queue: &mut VecDeque<u32>, first: &[u32], second: &[u32]) -> Result<(), NoMemory>
+    ensures { OnOk result (queue.new.items ≡ queue.old.items ++ first.now ++ second.now) }
+{
+    put_behind(queue, first)?;
+    put_behind(queue, second)
+}
+
 impl Engine {
     /// Whether the run ends: no commits or moves are left, or each process of the queue went to its back.
     fn is_at_end(&self) -> bool
@@ -96,9 +104,10 @@ impl Engine {
             self.planner.bound.as_slice(),
             self.planner.woken.as_slice(),
         )?;
-        put_behind(&mut self.queue, self.planner.children.as_slice())?;
-        put_behind(&mut self.queue, self.planner.woken.as_slice())?;
-        self.asleep -= self.planner.woken.len();
+        let children = self.planner.children.as_slice();
+        let woken = self.planner.woken.as_slice();
+        put_both(&mut self.queue, children, woken)?;
+        self.asleep -= woken.len();
         self.passed = 0;
         Ok(())
     }

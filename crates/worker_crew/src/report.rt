@@ -5,6 +5,7 @@ ghost use Rattle.worker_crew.specs.Engines.{IsTask, IsReportOf, IsAtRest, HasEnd
 
 use crate::engine::{Engine, Task};
 use crate::run::Report;
+use commit_engine::Hall;
 use entry_lines::push_variable_lines;
 use fcp_model::log_lines::{push_end_line, push_outcome_line};
 use fcp_model::{NoMemory, Outcome};
