@@ -12,7 +12,7 @@ use crate::names::place_name;
 use fcp_model::{NoMemory, Place};
 use heap_words::{Trail, Words};
 
-/// Puts the names of the places whose words are at some addresses into an empty list.
+/// Puts the names of the places whose words are at some addresses into a list, and drops what was in it.
 pub(crate) fn put_places<W: Words>(
     places: &mut Vec<Place>,
     trail: &mut Trail,
