@@ -1,11 +1,10 @@
 -- How a process is decided: what a trial answers, for the program of which the code is.
-use Rattle.std.specs.Prelude.{◌≡◌, ℕ, ◌≤◌, Bool, true, false, List, Some}
+use Rattle.std.specs.Prelude.{◌≡◌, ℕ, Bool, true, false, List, Some}
 use Rattle.fcp_model.specs.Programs.{Program}
 use Rattle.heap_words.specs.Trails.{WordList, word_at}
 use Rattle.word_states.specs.Trials.{TriedCommit, TriedWait, TriedFail, IsReadCommit, IsReadWait}
 use Rattle.machine_code.specs.Compiling.{Tables, compiled}
 use Rattle.machine_code.specs.Correct.{MeansSource, NamesSource}
-use Rattle.trial_laws.specs.AtHand.{end_of}
 use Rattle.trial_laws.specs.Endings.{of_store, settled}
 use Rattle.trial_laws.specs.Leading.{IsTermWord}
 use Rattle.steady_tries.specs.Ends.{IsOfProgram}

@@ -1,5 +1,5 @@
 //! What the last trial hands over to its caller.
-ghost use Rattle.std.specs.Prelude.{◌≡◌, ◌≤◌, length};
+ghost use Rattle.std.specs.Prelude.{◌≡◌, ◌<◌, ◌≤◌, length};
 ghost use Rattle.std.specs.List.{concat};
 ghost use Rattle.word_states.specs.Pieces.{process_words};
 ghost use Rattle.try_desk.specs.Cuts.{cut, total};
@@ -29,7 +29,7 @@ impl Machine {
         self.waits.as_slice()
     }
 
-    /// The number of the clause that commits, from 1.
+    /// The number of the clause that commits, from 1; of a built-in process it is 0.
     pub fn clause(&self) -> u32
         ensures { result ≡ self.now.desk.clause }
     {
@@ -48,7 +48,7 @@ impl Machine {
     pub fn sizes(&self) -> &[u32]
         ensures cuts { cut (concat self.now.desk.pieces) result.now ≡ self.now.desk.pieces }
         ensures whole { total result.now ≡ length (concat self.now.desk.pieces) }
-        ensures few { length result.now ≤ 268435455 }
+        ensures few { length result.now < 268435455 }
     {
         self.desk.pieces.sizes()
     }

@@ -39,8 +39,9 @@ fn fill_binds(line: &mut Vec<(u32, u64)>, binds: &[(u32, u64)]) -> Result<(), No
 impl Machine {
     /// Decides the process at an address, by words that it loads from a store with other writers: a clause commits, the process waits
     /// for places, or it fails. What is decided is handed over by `reads` and the other readers. It holds in each store that has all
-    /// words read, for each program of which the code is. Only loads lie between, also where memory runs out. After each answer, and
-    /// after `NoMemory` too, the machine may be used for the next trial.
+    /// words read, for each program of which the code is. Only loads lie between, also where memory runs out. Of code that no compiler
+    /// makes the answer may be `NoMemory`, though memory is left. After each answer, and after `NoMemory` too, the machine may be used
+    /// for the next trial.
     pub fn trial<W: Words>(
         &mut self,
         code: &Code,

@@ -39,7 +39,8 @@ one_more b ns ws i at l e =
 
     go : (b : ℕ) (ns ws : List ℕ) (i : ℕ) → i < length ns
         → length (process_words b (cut ws (take (suc i) ns)))
-        ≡ cond (is_process (take (slice_index_or ns i 0) (drop (total (take i ns)) ws))) (suc (length (process_words b (cut ws (take i ns)))))
+        ≡ cond (is_process (take (slice_index_or ns i 0) (drop (total (take i ns)) ws)))
+        (suc (length (process_words b (cut ws (take i ns)))))
         (length (process_words b (cut ws (take i ns))))
     go b [] ws i l = absurd (omega arith)
     go b (n ∷ ns) ws zero l = one (is_process (take n ws)) b

@@ -149,7 +149,8 @@ terms_put h i n x old line line' e f g =
 
 -- one slot more, which holds what its number held before
 words_last : (slots : List Slot) (i x now : ℕ) (o : Option ℕ) → (i ≡ length slots → x ≡ unwrap_or o 6)
-    → held_word (slice_get (slots ++ (record { word = x; stamp = 0; operation = false }) ∷ []) i) now o ≡ held_word (slice_get slots i) now o
+    → held_word (slice_get (slots ++ (record { word = x; stamp = 0; operation = false }) ∷ []) i) now o
+    ≡ held_word (slice_get slots i) now o
 words_last [] zero x now o h = go (nat_eq 0 now)
   where
     go : (c : Bool) → cond c x (unwrap_or o 6) ≡ unwrap_or o 6

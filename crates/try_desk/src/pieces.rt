@@ -16,8 +16,11 @@ use std::marker::Model;
 /// Addresses from here on are those of a try's own pieces.
 pub(crate) const OWN: u32 = 4_000_000_000;
 
-/// So many words the pieces have at most, and so many pieces there are at most: so addresses and numbers of pieces have 32 bits.
+/// So many words the pieces have at most: so their addresses have 32 bits.
 const MOST: usize = 268_435_455;
+
+/// So many pieces there are at most: fewer than there are numbers in names.
+const MOST_PIECES: usize = 268_435_454;
 
 /// Pieces, in the order in which they were put. Contracts see the list of pieces.
 #[derive(Drop)]
@@ -27,7 +30,7 @@ pub struct Pieces {
 }
 
 impl Model for Pieces {
-    ghost use Rattle.std.specs.Prelude.{◌≡◌, ◌≤◌, ℕ, List, length};
+    ghost use Rattle.std.specs.Prelude.{◌≡◌, ◌<◌, ◌≤◌, ℕ, List, length};
     ghost use Rattle.try_desk.specs.Cuts.{cut, total};
 
     ghost Value = { List (List ℕ) };
@@ -35,7 +38,7 @@ impl Model for Pieces {
     ghost view = { λ p. cut p.words.items p.sizes.items };
 
     ghost invariant = { λ p. (total p.sizes.items ≡ length p.words.items) × (length p.words.items ≤ 268435455)
-        × (length p.sizes.items ≤ 268435455) };
+        × (length p.sizes.items < 268435455) };
 }
 
 /// Puts a size after the others. Where memory runs out, the sizes stay as they were.
@@ -105,11 +108,11 @@ impl Pieces {
         self.words.as_slice()
     }
 
-    /// The sizes of the pieces: by them the words of all are cut into pieces. They are at most 268,435,455.
+    /// The sizes of the pieces: by them the words of all are cut into pieces. They are fewer than 268,435,455.
     pub fn sizes(&self) -> &[u32]
         ensures cuts { cut (concat self.now) result.now ≡ self.now }
         ensures whole { total result.now ≡ length (concat self.now) }
-        ensures few { length result.now ≤ 268435455 }
+        ensures few { length result.now < 268435455 }
     {
         self.sizes.as_slice()
     }
@@ -141,7 +144,7 @@ impl Pieces {
         if size > MOST - count {
             return Err(NoMemory);
         }
-        if self.sizes.as_slice().len() >= MOST {
+        if self.sizes.as_slice().len() >= MOST_PIECES {
             return Err(NoMemory);
         }
         put_size(&mut self.sizes, size as u32)?;

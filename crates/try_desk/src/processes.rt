@@ -1,5 +1,5 @@
 //! How many of the pieces are processes.
-ghost use Rattle.std.specs.Prelude.{◌≡◌, ◌+◌, ◌≤◌, length, take, drop};
+ghost use Rattle.std.specs.Prelude.{◌≡◌, ◌+◌, ◌<◌, ◌≤◌, length, take, drop};
 ghost use Rattle.word_states.specs.Pieces.{is_process, process_words};
 ghost use Rattle.try_desk.specs.Cuts.{cut, total};
 
@@ -18,7 +18,7 @@ fn is_ready(words: &[u64], at: usize, size: u32) -> bool
 fn processes_among(words: &[u64], sizes: &[u32]) -> u32
     requires whole { total sizes.now ≡ length words.now }
     requires words { length words.now ≤ 268435455 }
-    requires sizes { length sizes.now ≤ 268435455 }
+    requires sizes { length sizes.now < 268435455 }
     ensures { result ≡ length (process_words 4000000000 (cut words.now sizes.now)) }
 {
     let mut count = 0;

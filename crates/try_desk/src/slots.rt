@@ -1,5 +1,6 @@
 //! The slots of a try. Each has the stamp of the try in which a word was put into it, so a new try resets them all at once.
-ghost use Rattle.std.specs.Prelude.{◌≡◌, ◌+◌, ◌<◌, ◌≤◌, ◌++◌, [], ◌∷◌, length, IfOk, OnOk, MatchResult, if◌then◌else◌, unwrap_or, slice_get};
+ghost use Rattle.std.specs.Prelude.{◌≡◌, ◌+◌, ◌<◌, ◌≤◌, ◌++◌, [], ◌∷◌, length, IfOk, OnOk, MatchResult, if◌then◌else◌};
+ghost use Rattle.std.specs.Prelude.{unwrap_or, slice_get};
 ghost use Rattle.try_desk.specs.Held.{held, held_terms, held_with, held_anew, NoneLater};
 ghost use Rattle.try_desk.specs.Keeping.{KeepsArguments};
 

@@ -16,7 +16,7 @@ invariant_of-self-in-Ok c =
       put_whole c.self.inside.words.items c.put_words.new.words.items c.args.piece.now c.self.inside.sizes.items c.put_size.new.sizes.items
           c.self.invariant.0 sizes words,
       omega (arith, size, same, c.if-size-count.false, c.self.invariant.1),
-      omega (arith, more, few, c.if-as_slice-ge-MOST.false),
+      omega (arith, more, few, c.if-as_slice-ge-MOST_PIECES.false),
     )
 
 pub returns-in-Ok-clause-pieces : goal.returns-in-Ok-clause-pieces
