@@ -48,7 +48,8 @@ whole_total (p ∷ ps) = length-append p (concat ps) ∙ ap (λ (n : ℕ). lengt
 -- the writes of a commit, by equal lists
 pub commit_same : (rooms rooms' : List Room) (table table' : List ℕ) (n p : ℕ) (binds binds' : WordList) (ps ps' : List (List ℕ))
     (wakes wakes' : List ℕ) → rooms ≡ rooms' → table ≡ table' → binds ≡ binds' → ps ≡ ps' → wakes ≡ wakes'
-    → commit_writes (moved_to table) n p binds ps wakes (tops_of rooms) ≡ commit_writes (moved_to table') n p binds' ps' wakes' (tops_of rooms')
+    → commit_writes (moved_to table) n p binds ps wakes (tops_of rooms)
+    ≡ commit_writes (moved_to table') n p binds' ps' wakes' (tops_of rooms')
 commit_same rooms rooms' table table' n p binds binds' ps ps' wakes wakes' e f g h k =
     ap (λ (rs : List Room). commit_writes (moved_to table) n p binds ps wakes (tops_of rs)) e
     ∙ ap (λ (l : List ℕ). commit_writes (moved_to l) n p binds ps wakes (tops_of rooms')) f

@@ -109,5 +109,7 @@ pub commit_says : ACommitFits → ACommitIsSafe → (t : Tables) (old mid new : 
 commit_says fits safe t old mid new p z cells mover decided grows hands laid is same =
     let reads : AreReads mid.machine.trail.kept = (laid.planned z mover).read.reads in
     let now = subst (λ (h : HandedOver). IsDecided t h p trial.Commit) (sym hands)
-    (decided_more t (handed_over old.machine) p trial.Commit mid.machine.trail.kept grows reads decided) in
-    (commit_plan fits safe t old.machine.trail.kept mid new p z cells mover now laid is same, (process_of z, mid.machine.desk.clause, is.entry))
+    (decided_more t (handed_over old.machine) p trial.Commit mid.machine.trail.kept grows reads decided) in (
+      commit_plan fits safe t old.machine.trail.kept mid new p z cells mover now laid is same,
+      (process_of z, mid.machine.desk.clause, is.entry),
+    )

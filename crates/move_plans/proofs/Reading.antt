@@ -84,7 +84,8 @@ places_more kept kept' places lists lists' i grows below h put = record {
       (among_either lists _ (a, e) (subst (λ (l : WordList). Among l (a, e)) put.2 m));
 }
   where
-    ends : (ls : WordList) → addresses_of (ls ++ (get_or places i 0, list_of (decoded put.0)) ∷ []) ≡ addresses_of ls ++ get_or places i 0 ∷ []
+    ends : (ls : WordList)
+        → addresses_of (ls ++ (get_or places i 0, list_of (decoded put.0)) ∷ []) ≡ addresses_of ls ++ get_or places i 0 ∷ []
     ends [] = refl
     ends (l ∷ ls) = ap (λ (k : List ℕ). l.0 ∷ k) (ends ls)
 

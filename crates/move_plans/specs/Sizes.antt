@@ -23,4 +23,5 @@ cells_found ps _ _ k = 1
 
 -- these are the cells of the commit of the process at p by clause k, by the numbers that were read of it
 abbrev pub CellsRead : Tables → WordList → ℕ → ℕ → ℕ → Type 0
-CellsRead t kept p k cells = (f n : Option ℕ) × NumberRead kept (p + 2) f × NumberRead kept (p + 3) n × (cells ≡ cells_found t.procedures f n k)
+CellsRead t kept p k cells =
+    (f n : Option ℕ) × NumberRead kept (p + 2) f × NumberRead kept (p + 3) n × (cells ≡ cells_found t.procedures f n k)
