@@ -1,5 +1,5 @@
 -- What a turn needs of a hall.
-use Rattle.std.specs.Prelude.{◌≡◌, ◌⊎◌, ℕ, ◌+◌, ◌-◌, ◌*◌, ◌/◌, ◌<◌, ◌≤◌, Bool, true, false, List, Option, Some, length}
+use Rattle.std.specs.Prelude.{◌≡◌, ◌⊎◌, ℕ, ◌-◌, ◌*◌, ◌/◌, ◌<◌, ◌≤◌, Bool, true, false, List, Option, Some, length}
 use Rattle.heap_words.specs.Cells.{is_final_word}
 use Rattle.heap_words.specs.Heaps.{IsHeap, inside_at}
 use Rattle.heap_words.specs.Trails.{WordList}
@@ -54,8 +54,9 @@ pub record MayStamp (pages : ℕ) (holds : ℕ → Bool) (stands primed : ℕ �
   pub held_writes : (n a x : ℕ) → Among (writes_of e n) (a, x) → holds (a / 1024) ≡ true
   -- it is sound, and its writes may follow over any heap that has the words which stand and are shown
   pub sound : (n : ℕ) → n < 0x8000001 → IsSound e.reads.items (writes_of e n)
-  pub writes : (n : ℕ) (ws : List ℕ) → n < 0x8000001 → IsHeap ws → length ws ≡ 1024 * pages → ((a x : ℕ) → stands a x → inside_at ws a ≡ Some x)
-      → ((a x : ℕ) → shown a ≡ Some x → inside_at ws a ≡ Some x) → MayWrite ws (writes_of e n)
+  pub writes : (n : ℕ) (ws : List ℕ) → n < 0x8000001 → IsHeap ws → length ws ≡ 1024 * pages
+      → ((a x : ℕ) → stands a x → inside_at ws a ≡ Some x) → ((a x : ℕ) → shown a ≡ Some x → inside_at ws a ≡ Some x)
+      → MayWrite ws (writes_of e n)
   -- each new word was primed: with its value, or as an unbound place
   pub primed_new : (n a x : ℕ) → Among (writes_of e n) (a, x) → ((y : ℕ) × stands a y) ⊎ (primed a x ⊎ primed a 0)
 

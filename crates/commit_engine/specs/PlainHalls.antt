@@ -1,6 +1,6 @@
 -- A plain hall: what its fields say.
 use Rattle.std.specs.Prelude.{◌≡◌, ℕ, suc, ◌+◌, ◌*◌, ◌<◌, ◌≤◌, Bool, false, [], ◌∷◌, ◌++◌, length, slice_get, unwrap_or, Some}
-use Rattle.heap_words.specs.Heaps.{IsHeap, is_inside, inside_at}
+use Rattle.heap_words.specs.Heaps.{IsHeap, inside_at}
 use Rattle.word_states.specs.Words.{HasAll}
 use Rattle.word_states.specs.Writing.{applied, MayWrite}
 use Rattle.word_moves.specs.declared.word_move.WordMove.{WordMove}

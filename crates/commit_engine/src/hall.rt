@@ -103,7 +103,8 @@ pub trait Hall: Words {
         ensures holds { (p : ℕ) → holds self.new p ≡ holds self.old p }
         ensures due { due self.new ≡ false }
         ensures takes { takes self.new ≡ takes self.old }
-        ensures rest { (page_count self.new ≡ page_count self.old) × (purse self.new ≡ purse self.old) × (spare self.new ≡ spare self.old) };
+        ensures rest { (page_count self.new ≡ page_count self.old) × (purse self.new ≡ purse self.old)
+            × (spare self.new ≡ spare self.old) };
 
     /// Gives a held page back.
     fn give(&mut self, page: u32)

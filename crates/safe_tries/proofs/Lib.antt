@@ -8,3 +8,4 @@ pub mod KeptMore
 pub mod OpenedValues
 pub mod Unifications
 pub mod Cuts
+pub mod LowWords
