@@ -1,14 +1,13 @@
 -- What a turn answers, of the hall before and after it.
-use Rattle.std.specs.Prelude.{◌≡◌, ◌⊎◌, ℕ, ◌/◌, ◌<◌, Bool, true, false, List, [], ◌∷◌, ◌++◌, Some}
+use Rattle.std.specs.Prelude.{◌≡◌, ℕ, ◌<◌, Bool, true, false, List, ◌++◌, Some}
 use Rattle.fcp_model.specs.declared.run.Entry.{Entry}
 use Rattle.fcp_model.specs.declared.run.Entry.TheVariants.{Commit, Hang, Fail}
 use Rattle.fcp_model.specs.declared.run.Proc.{Proc}
 use Rattle.fcp_model.specs.Programs.{Program}
-use Rattle.heap_words.specs.Cells.{decoded, is_final_word}
+use Rattle.heap_words.specs.Cells.{decoded}
 use Rattle.heap_words.specs.Trails.{word_at}
 use Rattle.heap_words.specs.declared.cell.Cell.TheVariants.{Status}
 use Rattle.heap_words.specs.declared.cell.Stand.TheVariants.{Ready}
-use Rattle.word_states.specs.Words.{Among}
 use Rattle.word_states.specs.Going.{Move, Fits}
 use Rattle.machine_code.specs.Compiling.{Tables}
 use Rattle.trial_machine.specs.Deciding.{IsCodeOf}
@@ -20,22 +19,8 @@ use Rattle.move_plans.specs.Plans.{NamesMover, IsPlan}
 use Rattle.commit_engine.specs.declared.answer.Turn.{Turn}
 use Rattle.commit_engine.specs.declared.answer.Turn.TheVariants as answer
 use Rattle.commit_engine.specs.declared.answer.Spent.TheVariants as spent
-use Rattle.commit_engine.specs.Halls.{writes_of, IsPaid, IsSpent}
-
--- the page has a word that the entry writes, or one that it read and that is not final
-abbrev pub IsNeeded : WordMove → ℕ → ℕ → Type 0
-IsNeeded e n p = ((a x : ℕ) × Among (writes_of e n) (a, x) × (a / 1024 ≡ p))
-    ⊎ ((a x : ℕ) × Among e.reads.items (a, x) × (is_final_word x ≡ false) × (a / 1024 ≡ p))
-
--- a take looked at the page, and found it free or not
-abbrev pub Took : List (ℕ × Bool) → ℕ → Bool → Type 0
-Took [] p b = ⊥
-Took (t ∷ ts) p b = (t ≡ (p, b)) ⊎ Took ts p b
-
--- page numbers rise
-abbrev pub AreRising : List (ℕ × Bool) → Type 0
-AreRising [] = Unit {0}
-AreRising (t ∷ ts) = ((p : ℕ) (b : Bool) → Took ts p b → t.0 < p) × AreRising ts
+use Rattle.commit_engine.specs.Halls.{IsPaid, IsSpent}
+use Rattle.commit_engine.specs.Takes.{IsNeeded, Took, AreRising}
 
 -- the entry is a commit, or a hang
 abbrev pub IsCommit : Entry → Type 0

@@ -2,8 +2,14 @@
 #![tactic(auto)]
 
 mod answer;
+mod change;
 mod hall;
+mod looking;
+mod making;
+mod pages;
+mod placing;
 mod plain_hall;
+mod prepared;
 mod turns;
 
 pub use answer::{Spent, Turn};
