@@ -35,5 +35,5 @@ returns c =
         cells = refl;
       };
       address = refl;
-      tells = record { children = refl; woken = refl; bound = refl; waits = refl };
+      tells = record { entry = refl; children = refl; woken = refl; bound = refl; waits = refl };
     }
