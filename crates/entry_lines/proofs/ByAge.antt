@@ -1,7 +1,7 @@
 -- Places in order of age: a waiting set is, a list that was sorted is, and two such lists with the same places are one.
-use Rattle.std.proofs.Common.{◌≡◌, ◌⊎◌, ℕ, zero, suc, ◌<◌, Bool, true, false, List, [], ◌∷◌, length, refl, sym, ap, ap₂, ◌∙◌, subst}
+use Rattle.std.proofs.Common.{◌≡◌, ◌⊎◌, ℕ, zero, suc, ◌<◌, Bool, true, false, List, [], ◌∷◌, length, refl, sym, ap₂, subst}
 use Rattle.std.proofs.Common.{⊎_elim, inl, inr, arith, true≢false}
-use Rattle.std.specs.Prelude.{◌&&◌, ◌||◌, nat_eq, nat_lt, Contains, slice_index_or}
+use Rattle.std.specs.Prelude.{nat_eq, nat_lt, Contains, slice_index_or}
 use Rattle.std.specs.Cmp.{IsTotalOrder, IsEquivalence}
 use Rattle.std.specs.Ordering.{nat_cmp, ordering_then, eq_by_cmp}
 use Rattle.std.specs.declared.cmp.Ordering.{Ordering}
@@ -56,8 +56,8 @@ listed_inserted p (q ∷ qs) r h = go (is_same_place p q) (is_older_place p q) h
     go false true i rec = listed_either p r (q ∷ qs) i
     go false false i rec = ⊎_elim
         (λ (e : q ≡ r). inr (subst (λ (k : Place). is_listed k (q ∷ qs) ≡ true) e (first_listed q qs)))
-        (λ (k : is_listed r (inserted p qs) ≡ true). ⊎_elim (λ (e : p ≡ r). inl e) (λ (j : is_listed r qs ≡ true). inr (more_listed q r qs j))
-        (rec k)) (listed_either q r (inserted p qs) i)
+        (λ (k : is_listed r (inserted p qs) ≡ true).
+        ⊎_elim (λ (e : p ≡ r). inl e) (λ (j : is_listed r qs ≡ true). inr (more_listed q r qs j)) (rec k)) (listed_either q r (inserted p qs) i)
 
 inserted_by_age : (p : Place) (qs : List Place) → AreByAge qs → AreByAge (inserted p qs)
 inserted_by_age p [] r = ((λ q i. absurd (true≢false (sym i))), tt)

@@ -8,7 +8,6 @@ use Rattle.std.proofs.lemmas.Slice.Zip.{all_zipped_more}
 use Rattle.fcp_model.specs.declared.run.Place.{Place}
 use Rattle.fcp_model.specs.declared.run.Proc.{Proc}
 use Rattle.fcp_model.specs.declared.run.Entry.{Entry}
-use Rattle.fcp_model.specs.declared.run.Entry.TheVariants.{Commit, Hang}
 use Rattle.fcp_model.specs.Places.{Variable, made, is_listed}
 use Rattle.fcp_model.specs.Terms.{Term, find, rename, settle}
 use Rattle.fcp_model.specs.States.{Process, State}
@@ -23,7 +22,7 @@ use Rattle.word_states.specs.Standing.{Book, ProcessAt, PlaceAt}
 use Rattle.word_states.specs.Trials.{AreAt, places_bound}
 use Rattle.word_states.specs.Going.{AllAt}
 use Rattle.entry_lines.specs.Additions.{Gives}
-use Rattle.entry_lines.specs.Lines.{CommitLine, IsCommitThere, HangLine, IsHangThere}
+use Rattle.entry_lines.specs.Lines.{CommitLine, IsCommitThere, HangLine}
 use Rattle.entry_lines.specs.Reading.{NamesPlace}
 use Rattle.entry_lines.specs.Texts.{bound_texts, AddsAllBound, AddsProcesses}
 use Rattle.entry_lines.specs.Waits.{AreByAge}
@@ -46,7 +45,8 @@ places_zip vs [] (j ∷ js) h = absurd h
 places_zip vs (a ∷ as') [] h = absurd h
 places_zip vs (a ∷ as') (j ∷ js) h = (h.0, places_zip vs as' js h.1)
 
-processes_zip : (book : Book) (s : State) (qs : List ℕ) (ys : List Process) → AllAt book s qs ys → AllZip (λ q y. ProcessAt book s q y) qs ys
+processes_zip : (book : Book) (s : State) (qs : List ℕ) (ys : List Process) → AllAt book s qs ys
+    → AllZip (λ q y. ProcessAt book s q y) qs ys
 processes_zip book s [] [] h = tt
 processes_zip book s [] (y ∷ ys) h = absurd h
 processes_zip book s (q ∷ qs) [] h = absurd h
@@ -98,7 +98,8 @@ pub commit_adds : (names : List Bytes) (kept kept' : WordList) (entry : ℕ) (pr
 commit_adds names kept kept' entry process clause bound woken t0 t1 t2 t3 t4 t5 t6 t7 t8 up e1 e2 e3 e4 e5 f g e8 w book ev has is =
     let a = f w book ev.after (λ b x i. has b x (up b x i)) is.stands (places_bound ev.bindings)
     (places_zip book.places bound (places_bound ev.bindings) is.places) in
-    let e7 = g w book ev.after has is.stands (map made_ready ev.woken) (processes_zip book ev.after woken (map made_ready ev.woken) is.woken_at) in
+    let e7 = g w book ev.after has is.stands (map made_ready ev.woken)
+    (processes_zip book ev.after woken (map made_ready ev.woken) is.woken_at) in
     record {
       added = line_of entry (commit_text process clause a.added (map (λ (y : Process). y.name) ev.woken));
       behind = e8 ∙ ap (λ (l : Bytes). l ++ codes "\n") (e7 ∙ ap (λ (l : List Proc). t6 ++ woken_text l) (names_ready ev.woken)

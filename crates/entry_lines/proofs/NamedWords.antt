@@ -2,7 +2,6 @@
 use Rattle.std.proofs.Common.{◌≡◌, ℕ, ◌+◌, ◌-◌, ◌≤◌, ◌<◌, Option, sym, ap, ◌∙◌, subst}
 use Rattle.std.specs.Prelude.{pos}
 use Rattle.fcp_model.specs.declared.run.Place.{Place}
-use Rattle.fcp_model.specs.declared.run.Proc.{Proc}
 use Rattle.fcp_model.specs.Places.{made, place, proc}
 use Rattle.heap_words.specs.Cells.{decoded}
 use Rattle.heap_words.specs.WordsLaws.{WordsLaws}

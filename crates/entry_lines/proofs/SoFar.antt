@@ -1,5 +1,5 @@
 -- What the loops over places, processes and variables have put so far.
-use Rattle.std.proofs.Common.{◌≡◌, ℕ, ◌+◌, ◌*◌, ◌<◌, ◌≤◌, List, [], ◌∷◌, ◌++◌, length, take, map, get_or, Option, refl, sym, ap, ◌∙◌, subst}
+use Rattle.std.proofs.Common.{◌≡◌, ℕ, ◌+◌, ◌<◌, ◌≤◌, List, [], ◌∷◌, ◌++◌, length, take, map, get_or, Option, sym, ap, ◌∙◌, subst}
 use Rattle.std.proofs.Common.{append_assoc, append-nil, arith, Some}
 use Rattle.std.specs.Prelude.{codes}
 use Rattle.std.specs.List.{AllZip}
@@ -17,7 +17,7 @@ use Rattle.entry_lines.specs.Additions.{Adds}
 use Rattle.entry_lines.specs.Lines.{AreGoalPlaces, VariableLines}
 use Rattle.entry_lines.specs.Reading.{Wherever, NamesProcess}
 use Rattle.entry_lines.specs.Texts.{bound_texts, AddsBound, AddsAllBound, AddsProcesses, AddsVariable}
-use Rattle.entry_lines.proofs.Adding.{adds_both, adds_nothing, next_of, all_of, bound_texts-append, variables_added, processes_added}
+use Rattle.entry_lines.proofs.Adding.{adds_both, next_of, all_of, bound_texts-append, variables_added, processes_added}
 
 -- the texts of the first i places
 abbrev pub BoundSoFar : WordList → List Bytes → List ℕ → ℕ → Bytes → Bytes → Type 0
@@ -36,7 +36,8 @@ VariablesSoFar kept names variables i old new = Wherever kept (λ book s. AreGoa
 
 module _ (kept kept' : WordList) (up : (a x : ℕ) → word_at kept a ≡ Some x → word_at kept' a ≡ Some x) where
   pub bound_next : (names : List Bytes) (as' : List ℕ) (i d : ℕ) (one two three : Bytes) → i < length as'
-      → BoundSoFar kept names as' i one two → AddsBound kept' names (get_or as' i d) two three → BoundSoFar kept' names as' (i + 1) one three
+      → BoundSoFar kept names as' i one two → AddsBound kept' names (get_or as' i d) two three
+      → BoundSoFar kept' names as' (i + 1) one three
   bound_next names as' i d one two three l f g w book s has stands js z =
       let r = next_of (λ a j. PlaceAt book j a) as' js i d z l in
       adds_both _ _ _ one two three (f w book s (λ a x e. has a x (up a x e)) stands js z) (g w book s has stands r.0 r.1)

@@ -13,7 +13,6 @@ use Rattle.fcp_model.specs.LogText.{event_line}
 use Rattle.fcp_model.specs.ReportText.{goal_variables, variable_lines}
 use Rattle.heap_words.specs.Trails.{WordList, word_at}
 use Rattle.word_states.specs.Words.{Words}
-use Rattle.word_states.specs.Denoting.{Addresses}
 use Rattle.word_states.specs.Standing.{Book, StandsFor, PlaceAt}
 use Rattle.word_states.specs.Trials.{places_bound, AreAt}
 use Rattle.word_states.specs.Going.{AllAt, ArePlaces}
@@ -28,7 +27,8 @@ abbrev pub OnlyOnce : Bindings → Place → Type 0
 OnlyOnce bs j = (at at' : ℕ) (t t' : Term Variable) → slice_get bs at ≡ Some (made j, t) → slice_get bs at' ≡ Some (made j, t') → at ≡ at'
 
 -- The event is a commit with this number, the words stand for the state after it, and these are the addresses of what it bound and woke.
-pub record IsCommitThere (w : Words) (book : Book) (ev : Event) (entry : ℕ) (process : Proc) (clause : ℕ) (bound woken : List ℕ) : Type 0 where
+pub record IsCommitThere (w : Words) (book : Book) (ev : Event) (entry : ℕ) (process : Proc) (clause : ℕ) (bound woken : List ℕ)
+    : Type 0 where
   pub stands : StandsFor book w ev.after
   pub is : ev.entry ≡ Commit process clause
   pub number : ev.after.entries ≡ entry

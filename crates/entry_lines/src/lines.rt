@@ -13,8 +13,8 @@ use fcp_model::{Names, NoMemory, Proc, Sym, log_lines};
 use heap_words::{Trail, Words};
 use word_texts::TextLists;
 
-/// Puts `N commit #a.b K`, what the commit bound, by value and cut after 64 nodes, and whom it woke. `bound` are the addresses of the places, in
-/// the order in which they were bound, `woken` those of the processes, by name.
+/// Puts `N commit #a.b K`, what the commit bound, by value and cut after 64 nodes, and whom it woke. `bound` are the addresses of the
+/// places, in the order in which they were bound, `woken` those of the processes, by name.
 pub fn push_commit_line<W: Words>(
     lists: &mut TextLists,
     trail: &mut Trail,
@@ -32,7 +32,8 @@ pub fn push_commit_line<W: Words>(
     requires places { (a : ℕ) → IsIn a bound.now → (0 < a) × W.knows words.old a × W.knows words.old (a - 1) }
     requires processes { (q : ℕ) → IsIn q woken.now → (q + 1 < 4294967296) × W.knows words.old (q + 1) }
     ensures between { W.later words.old words.new }
-    ensures loaded { OnOk result (KeepsLoads W.sound W.had W.leads W.later W.gave [] [] words.old trail.new.kept trail.new.binds words.new) }
+    ensures loaded { OnOk result (KeepsLoads W.sound W.had W.leads W.later W.gave [] [] words.old trail.new.kept trail.new.binds
+        words.new) }
     ensures line { OnOk result (CommitLine names.now trail.new.kept entry process clause bound.now woken.now out.old.items out.new.items) }
 {
     trail.clear();
@@ -61,7 +62,8 @@ pub fn push_hang_line<W: Words>(
     requires store { W.addresses words.old ≤ 4000000000 }
     requires places { (a : ℕ) → IsIn a waits.now → (0 < a) × W.knows words.old (a - 1) }
     ensures between { W.later words.old words.new }
-    ensures loaded { OnOk result (KeepsLoads W.sound W.had W.leads W.later W.gave [] [] words.old trail.new.kept trail.new.binds words.new) }
+    ensures loaded { OnOk result (KeepsLoads W.sound W.had W.leads W.later W.gave [] [] words.old trail.new.kept trail.new.binds
+        words.new) }
     ensures line { OnOk result (HangLine names.now trail.new.kept entry process waits.now out.old.items out.new.items) }
 {
     trail.clear();
@@ -87,7 +89,8 @@ pub fn push_variable_lines<W: Words>(
     requires few { length variables.now ≤ 250 }
     requires places { (k : ℕ) → 1 ≤ k → k ≤ length variables.now → W.knows words.old (2 * k) × W.knows words.old (2 * k - 1) }
     ensures between { W.later words.old words.new }
-    ensures loaded { OnOk result (KeepsLoads W.sound W.had W.leads W.later W.gave [] [] words.old trail.new.kept trail.new.binds words.new) }
+    ensures loaded { OnOk result (KeepsLoads W.sound W.had W.leads W.later W.gave [] [] words.old trail.new.kept trail.new.binds
+        words.new) }
     ensures line { OnOk result (VariableLines names.now trail.new.kept variables.now out.old.items out.new.items) }
 {
     trail.clear();

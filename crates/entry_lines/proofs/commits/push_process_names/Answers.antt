@@ -25,8 +25,8 @@ pub loop-process-preserved : goal.loop-process-preserved
 loop-process-preserved g c = record {
   loaded = loaded_twice g.met.W.Words.laws c.loop-process.invariant.loaded c.in_ok-name.ensures.loaded;
   binds = c.process_name.ensures.binds ∙ c.loop-process.invariant.binds;
-  text = processes_next _ _ c.in_ok-name.ensures.loaded.went.grows c.args.processes.now c.loop-process.process-index 0 c.in_ok-name.name _ _ _
-      _ c.loop-process-test.true c.loop-process.invariant.text c.in_ok-name.ensures.name c.in_ok-push_bytes.ensures.ok
+  text = processes_next _ _ c.in_ok-name.ensures.loaded.went.grows c.args.processes.now c.loop-process.process-index 0
+      c.in_ok-name.name _ _ _ _ c.loop-process-test.true c.loop-process.invariant.text c.in_ok-name.ensures.name c.in_ok-push_bytes.ensures.ok
       c.in_ok-push_process.ensures;
 }
 

@@ -1,9 +1,6 @@
-use Rattle.std.proofs.Common.{◌≡◌, [], ◌∷◌, ◌++◌, ◌∙◌, sym, subst, get_or, take, arith}
-use Rattle.std.specs.List.{AllZip}
+use Rattle.std.proofs.Common.{◌≡◌, [], ◌∷◌, ◌++◌, ◌∙◌, arith}
 use Rattle.std.proofs.lemmas.Grind.{common_steps}
-use Rattle.fcp_model.specs.declared.run.Place.{Place}
-use Rattle.heap_words.proofs.Keeps.{loaded_none, loaded_twice}
-use Rattle.entry_lines.specs.Reading.{NamesPlace}
+use Rattle.heap_words.proofs.Keeps.{loaded_twice}
 use Rattle.entry_lines.proofs.Agreeing.{reads_later}
 use Rattle.entry_lines.proofs.LinesOfEntries.{in_list, named_more}
 use Rattle.entry_lines.proofs.hangs.put_places.Goals as goal

@@ -1,4 +1,4 @@
-use Rattle.std.proofs.Common.{◌≡◌, ◌+◌, ◌*◌, ◌-◌, [], refl, sym, ◌∙◌, arith}
+use Rattle.std.proofs.Common.{◌+◌, [], refl, ◌∙◌, arith}
 use Rattle.heap_words.proofs.Keeps.{loaded_none, loaded_twice}
 use Rattle.entry_lines.proofs.Adding.{adds_nothing}
 use Rattle.entry_lines.proofs.Agreeing.{reads_none, reads_later, loaded_cleared}
@@ -7,7 +7,8 @@ use Rattle.entry_lines.proofs.lines.push_variable_lines.Goals as goal
 
 pub loop-at-init : goal.loop-at-init
 loop-at-init g c =
-    let r = reads_none g.met.W.Words.laws _ _ c.args.words.now c.clear.ensures.kept c.clear.ensures.binds c.requires.sound c.requires.store in
+    let r = reads_none g.met.W.Words.laws _ _ c.args.words.now c.clear.ensures.kept c.clear.ensures.binds c.requires.sound
+    c.requires.store in
     record {
       loaded = loaded_cleared g.met.W.Words.laws c.clear.ensures.kept c.clear.ensures.binds
           (loaded_none g.met.W.Words.laws _ _ _ c.requires.sound r.holds);
