@@ -1,0 +1,4 @@
+mod Pages
+mod Found
+mod Sorting
+mod Matching
