@@ -4,6 +4,7 @@ use Rattle.std.specs.Prelude.{◌&&◌, codes, IfOk, IsTrue, Result, Ok, Err}
 use Rattle.std.specs.List.{list_all}
 use Rattle.std.specs.Str.{bytes_eq}
 use Rattle.std.proofs.lemmas.List.Folds.{list_all-map}
+use Rattle.std.proofs.lemmas.Bool.{and_from, and_parts, cases_Bool}
 use Rattle.fcp_model.specs.declared.run.Limits.{Limits}
 use Rattle.fcp_model.specs.Spelling.{Bytes}
 use Rattle.clap.specs.declared.parser.matches.ArgMatches.{ArgMatches}
@@ -20,7 +21,7 @@ use Rattle.command_words.specs.Commands.{logix}
 use Rattle.command_words.specs.Laws.{WordsHaveOneReading}
 use Rattle.command_words.specs.Orders.{Answers, Parses, is_allowed, is_long_or_plain, order_in}
 use Rattle.command_words.specs.Readings.{is_proper, is_plain, option_word, Part, positional, apart, joined, words_of, positionals, AreRunParts, IsReading, HasNoReading, ReadsWords, has_words}
-use Rattle.command_words.proofs.Forms.{IsLong, is_word, plain-or-long, plain-word, true-or-false, two-parts, two-whole}
+use Rattle.command_words.proofs.Forms.{IsLong, is_word, plain-or-long, plain-word}
 use Rattle.command_words.proofs.Levels.{names, run-fault, run-rows, show-fault, show-rows, top}
 use Rattle.command_words.proofs.PassingParts.{plain-stands}
 use Rattle.command_words.proofs.RunWords.{run-read, run-taken}
@@ -33,18 +34,18 @@ all-allowed : (words : List Bytes) → list_all is_allowed words ≡ true
     → (list_all is_proper words ≡ true) × (list_all is_long_or_plain words ≡ true)
 all-allowed [] e = (refl, refl)
 all-allowed (w ∷ ws) e =
-    let a = two-parts (is_allowed w) (list_all is_allowed ws) e in
-    let b = two-parts (is_proper w) (is_long_or_plain w) a.0 in
+    let a = and_parts (is_allowed w) (list_all is_allowed ws) e in
+    let b = and_parts (is_proper w) (is_long_or_plain w) a.0 in
     let rest = all-allowed ws a.1 in
-    (two-whole (is_proper w) (list_all is_proper ws) b.0 rest.0, two-whole (is_long_or_plain w) (list_all is_long_or_plain ws) b.1 rest.1)
+    (and_from (is_proper w) (list_all is_proper ws) b.0 rest.0, and_from (is_long_or_plain w) (list_all is_long_or_plain ws) b.1 rest.1)
 
 allowed-all : (words : List Bytes) → list_all is_proper words ≡ true → list_all is_long_or_plain words ≡ true
     → list_all is_allowed words ≡ true
 allowed-all [] p f = refl
 allowed-all (w ∷ ws) p f =
-    let a = two-parts (is_proper w) (list_all is_proper ws) p in
-    let b = two-parts (is_long_or_plain w) (list_all is_long_or_plain ws) f in
-    two-whole (is_allowed w) (list_all is_allowed ws) (two-whole (is_proper w) (is_long_or_plain w) a.0 b.0) (allowed-all ws a.1 b.1)
+    let a = and_parts (is_proper w) (list_all is_proper ws) p in
+    let b = and_parts (is_long_or_plain w) (list_all is_long_or_plain ws) f in
+    and_from (is_allowed w) (list_all is_allowed ws) (and_from (is_proper w) (is_long_or_plain w) a.0 b.0) (allowed-all ws a.1 b.1)
 
 -- ---- other first words
 
@@ -83,7 +84,7 @@ run-reading : (words : List Bytes) (o : Order) → list_all is_allowed (codes "r
     → IsReading (codes "run" ∷ words) o
 run-reading words o allowed passes finds =
     let a = all-allowed (codes "run" ∷ words) allowed in
-    let f = two-parts (is_long_or_plain (codes "run")) (list_all is_long_or_plain words) a.1 in
+    let f = and_parts (is_long_or_plain (codes "run")) (list_all is_long_or_plain words) a.1 in
     let r = run-read words o f.1 (sym (run-fault words) ∙ passes) (sym (ap order_in (run-rows words)) ∙ finds) in
     subst (IsReading (codes "run" ∷ words)) (sym r.is_order) (record {
       asks = record {
@@ -101,7 +102,7 @@ show-reading : (words : List Bytes) (o : Order) → list_all is_allowed (codes "
     → IsReading (codes "show" ∷ words) o
 show-reading words o allowed passes finds =
     let a = all-allowed (codes "show" ∷ words) allowed in
-    let f = two-parts (is_long_or_plain (codes "show")) (list_all is_long_or_plain words) a.1 in
+    let f = and_parts (is_long_or_plain (codes "show")) (list_all is_long_or_plain words) a.1 in
     let r = show-read words o f.1 (sym (show-fault words) ∙ passes) (sym (ap order_in (show-rows words)) ∙ finds) in
     subst (IsReading (codes "show" ∷ words)) (sym r.is_order) (record {
       asks = record {
@@ -126,7 +127,7 @@ first-reading w words o (inr r) (inl s) =
     → order_in (subcommand_of logix (x ∷ words)) ≡ Some o
     → IsReading (x ∷ words) o) (is_word (codes "show") w s) (show-reading words o)
 first-reading w words o (inr r) (inr s) = λ allowed passes finds.
-    let f = two-parts (is_long_or_plain w) (list_all is_long_or_plain words) (all-allowed (w ∷ words) allowed).1 in
+    let f = and_parts (is_long_or_plain w) (list_all is_long_or_plain words) (all-allowed (w ∷ words) allowed).1 in
     absurd (other-fails w words r s f.0 passes)
 
 taken-reading : (words : List Bytes) (o : Order) → list_all is_allowed words ≡ true → fault_of logix words ≡ []
@@ -134,7 +135,7 @@ taken-reading : (words : List Bytes) (o : Order) → list_all is_allowed words �
     → IsReading words o
 taken-reading [] o allowed passes finds = let bad : None ≡ Some o = finds in cc
 taken-reading (w ∷ words) o allowed passes finds =
-    first-reading w words o (true-or-false (bytes_eq (codes "run") w)) (true-or-false (bytes_eq (codes "show") w)) allowed passes finds
+    first-reading w words o (cases_Bool (bytes_eq (codes "run") w)) (cases_Bool (bytes_eq (codes "show") w)) allowed passes finds
 
 -- ---- and what words ask for is what the parser takes and finds
 
@@ -146,7 +147,7 @@ run-is-taken words file goal limits parts proper a =
     let t = run-taken words parts file goal limits a in
     record {
       allowed = allowed-all (codes "run" ∷ words) proper
-          (two-whole (is_long_or_plain (codes "run")) (list_all is_long_or_plain words) refl t.formed);
+          (and_from (is_long_or_plain (codes "run")) (list_all is_long_or_plain words) refl t.formed);
       passes = run-fault words ∙ t.passes;
       finds = ap order_in (run-rows words) ∙ t.finds;
     }
@@ -154,7 +155,7 @@ run-is-taken words file goal limits parts proper a =
 show-is-taken : (file : Bytes) → list_all is_proper (codes "show" ∷ file ∷ []) ≡ true → is_plain file ≡ true
     → IsTaken (codes "show" ∷ file ∷ []) (Show file)
 show-is-taken file proper plain = record {
-  allowed = allowed-all (codes "show" ∷ file ∷ []) proper (two-whole (is_long_or_plain file) true (plain-stands file plain) refl);
+  allowed = allowed-all (codes "show" ∷ file ∷ []) proper (and_from (is_long_or_plain file) true (plain-stands file plain) refl);
   passes = show-fault (file ∷ []) ∙ show-passes file plain;
   finds = ap order_in (show-rows (file ∷ [])) ∙ show-found file plain;
 }
@@ -202,32 +203,32 @@ answered words m (Err NoMemory) allowed p a = tt
 positionals-proper : (ps : List Part) → list_all is_proper (words_of ps) ≡ true → list_all is_proper (positionals ps) ≡ true
 positionals-proper [] e = refl
 positionals-proper (positional w ∷ ps) e =
-    let k = two-parts (is_proper w) (list_all is_proper (words_of ps)) e in
-    two-whole (is_proper w) (list_all is_proper (positionals ps)) k.0 (positionals-proper ps k.1)
+    let k = and_parts (is_proper w) (list_all is_proper (words_of ps)) e in
+    and_from (is_proper w) (list_all is_proper (positionals ps)) k.0 (positionals-proper ps k.1)
 positionals-proper (apart o v ∷ ps) e =
-    let k = two-parts (is_proper (option_word o)) (is_proper v && list_all is_proper (words_of ps)) e in
-    let j = two-parts (is_proper v) (list_all is_proper (words_of ps)) k.1 in
+    let k = and_parts (is_proper (option_word o)) (is_proper v && list_all is_proper (words_of ps)) e in
+    let j = and_parts (is_proper v) (list_all is_proper (words_of ps)) k.1 in
     positionals-proper ps j.1
 positionals-proper (joined o v ∷ ps) e =
-    let k = two-parts (is_proper (option_word o ++ codes "=" ++ v)) (list_all is_proper (words_of ps)) e in
+    let k = and_parts (is_proper (option_word o ++ codes "=" ++ v)) (list_all is_proper (words_of ps)) e in
     positionals-proper ps k.1
 
 proper-words : (words : List Bytes) (o : Order) → IsReading words o → has_words o ≡ true
 proper-words words (Run file goal limits) r =
     let all : list_all is_proper (codes "run" ∷ r.asks.behind) ≡ true =
     subst (λ x. list_all is_proper x ≡ true) r.asks.command r.asks.proper in
-    let k = two-parts (is_proper (codes "run")) (list_all is_proper r.asks.behind) all in
+    let k = and_parts (is_proper (codes "run")) (list_all is_proper r.asks.behind) all in
     let ps : list_all is_proper (words_of r.asks.parts) ≡ true = subst (λ x. list_all is_proper x ≡ true) r.asks.are_parts.spelled k.1 in
     let two : list_all is_proper (file ∷ goal ∷ []) ≡ true =
     subst (λ x. list_all is_proper x ≡ true) r.asks.are_parts.two (positionals-proper r.asks.parts ps) in
-    let f = two-parts (is_proper file) (is_proper goal && true) two in
-    let g = two-parts (is_proper goal) true f.1 in
-    two-whole (is_proper file) (is_proper goal) f.0 g.0
+    let f = and_parts (is_proper file) (is_proper goal && true) two in
+    let g = and_parts (is_proper goal) true f.1 in
+    and_from (is_proper file) (is_proper goal) f.0 g.0
 proper-words words (Show file) r =
     let all : list_all is_proper (codes "show" ∷ file ∷ []) ≡ true =
     subst (λ x. list_all is_proper x ≡ true) r.asks.command r.asks.proper in
-    let k = two-parts (is_proper (codes "show")) (is_proper file && true) all in
-    let f = two-parts (is_proper file) true k.1 in
+    let k = and_parts (is_proper (codes "show")) (is_proper file && true) all in
+    let f = and_parts (is_proper file) true k.1 in
     f.0
 
 pub read-proper : (words : List Bytes) (r : Result Order WordFault) → ReadsWords words r → IfOk r (λ o. IsTrue (has_words o))

@@ -1,9 +1,9 @@
 -- What words are by their form.
 use Rattle.std.proofs.Common.{◌≡◌, ℕ, suc, ◌+◌, Bool, true, false, [], ◌∷◌, ◌++◌, Option, Some, None, ap, sym, ◌∙◌, subst, refl, arith, ◌⊎◌, inl, inr}
-use Rattle.std.specs.Prelude.{◌==◌, ◌&&◌, ◌||◌, not, codes, if◌then◌else◌}
+use Rattle.std.specs.Prelude.{◌==◌, ◌||◌, not, codes, if◌then◌else◌}
 use Rattle.std.specs.List.{after_first, before_first, prefix_len}
 use Rattle.std.specs.Str.{bytes_eq}
-use Rattle.std.proofs.lemmas.Bool.{eqb-true}
+use Rattle.std.proofs.lemmas.Bool.{cases_Bool, eqb-true}
 use Rattle.std.proofs.lemmas.Slice.Eq.{bytes_eq-Decides}
 use Rattle.fcp_model.specs.Spelling.{Bytes}
 use Rattle.clap.specs.Lexer.{has_byte, long_of, name_and_value, short_of}
@@ -14,18 +14,6 @@ use Rattle.command_words.specs.Commands.{name_of}
 use Rattle.command_words.specs.Orders.{is_long_or_plain}
 use Rattle.command_words.specs.Readings.{is_plain, option_word}
 use Rattle.command_words.proofs.Levels.{number_rule, run_rules}
-
-pub true-or-false : (b : Bool) → (b ≡ true) ⊎ (b ≡ false)
-true-or-false true = inl refl
-true-or-false false = inr refl
-
-pub two-parts : (a b : Bool) → (a && b) ≡ true → (a ≡ true) × (b ≡ true)
-two-parts true b e = (refl, e)
-two-parts false b e = cc
-
-pub two-whole : (a b : Bool) → a ≡ true → b ≡ true → (a && b) ≡ true
-two-whole true b p q = q
-two-whole false b p q = cc
 
 pub is_word : (w text : Bytes) → bytes_eq w text ≡ true → w ≡ text
 is_word w text e = (bytes_eq-Decides w text).0 e
@@ -61,7 +49,7 @@ pub plain-or-long : (w : Bytes) → is_long_or_plain w ≡ true → (is_plain w 
 plain-or-long [] e = inl refl
 plain-or-long (a ∷ []) e = inl e
 plain-or-long (a ∷ b ∷ []) e = inl e
-plain-or-long (a ∷ b ∷ c ∷ rest) e = go (true-or-false (a == 45)) e
+plain-or-long (a ∷ b ∷ c ∷ rest) e = go (cases_Bool (a == 45)) e
   where
     go : ((a == 45) ≡ true) ⊎ ((a == 45) ≡ false) → (not (a == 45) || b == 45) ≡ true
         → (is_plain (a ∷ b ∷ c ∷ rest) ≡ true) ⊎ IsLong (a ∷ b ∷ c ∷ rest)
@@ -94,7 +82,7 @@ cut-at b bs (inr f) e rest =
 
 is-cut : (t : Bytes) → has_byte 61 t ≡ true → IsCut t
 is-cut [] e = cc
-is-cut (b ∷ bs) e = cut-at b bs (true-or-false (b == 61)) e (is-cut bs)
+is-cut (b ∷ bs) e = cut-at b bs (cases_Bool (b == 61)) e (is-cut bs)
 
 whole-at : (b : ℕ) (bs : Bytes) → ((b == 61) ≡ true) ⊎ ((b == 61) ≡ false) → ((b == 61) || has_byte 61 bs) ≡ false
     → (has_byte 61 bs ≡ false → before_first is_equals bs ≡ bs)
@@ -107,7 +95,7 @@ whole-at b bs (inr f) e rest =
 -- and where it has none, all of it stands before
 is-whole : (t : Bytes) → has_byte 61 t ≡ false → before_first is_equals t ≡ t
 is-whole [] e = refl
-is-whole (b ∷ bs) e = whole-at b bs (true-or-false (b == 61)) e (is-whole bs)
+is-whole (b ∷ bs) e = whole-at b bs (cases_Bool (b == 61)) e (is-whole bs)
 
 -- ---- names of options
 

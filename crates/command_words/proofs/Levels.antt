@@ -24,17 +24,43 @@ given_rule id long index = record (new_rule id) {
   parser = Some parser.String;
 }
 
-abbrev pub file_rule : Rule
-file_rule = given_rule (codes "file") None (Some 1)
+-- where the next positional word goes, if anywhere
+pub data Place : Type 0 where
+  first second full : Place
 
-abbrev pub goal_rule : Rule
-goal_rule = given_rule (codes "goal") None (Some 2)
+-- it would be the k-th
+abbrev pub place_index : Place → ℕ
+place_index first = 1
+place_index second = 2
+place_index full = 3
+
+-- the two positional arguments, and their places
+pub data Slot : Type 0 where
+  the_file the_goal : Slot
+
+abbrev pub slot_id : Slot → Bytes
+slot_id the_file = codes "file"
+slot_id the_goal = codes "goal"
+
+abbrev pub place_of : Slot → Place
+place_of the_file = first
+place_of the_goal = second
+
+abbrev pub place_behind : Slot → Place
+place_behind the_file = second
+place_behind the_goal = full
+
+abbrev pub slot_rule : Slot → Rule
+slot_rule s = given_rule (slot_id s) None (Some (place_index (place_of s)))
+
+abbrev pub file_rule : Rule
+file_rule = slot_rule the_file
 
 abbrev pub number_rule : RunOption → Rule
 number_rule o = given_rule (name_of o) (Some (name_of o)) None
 
 abbrev pub run_rules : List Rule
-run_rules = file_rule ∷ goal_rule ∷ number_rule Commits ∷ number_rule Moves ∷ number_rule Cells ∷ []
+run_rules = file_rule ∷ slot_rule the_goal ∷ number_rule Commits ∷ number_rule Moves ∷ number_rule Cells ∷ []
 
 -- a command behind the first word, as the parser completes it
 abbrev pub leaf : Shape → List Rule → Shape
@@ -79,8 +105,8 @@ stops name words e = ap (λ (w : Walk). w.stopped) (first-stops name words e)
 
 -- what the first level makes of the kinds of the words' own steps, and of where the parser stops
 abbrev level_from : Kinds → Walk → Kinds
-level_from first w =
-    or_else first (or_else (entered_fault (built logix) w.stopped)
+level_from start w =
+    or_else start (or_else (entered_fault (built logix) w.stopped)
     (or_else (settle_fault top.rules false w.held)
     (or_else (defaults_fault (settled top.rules w.held).rows top.rules)
     (check_fault top (finished top.rules w.held) (is_some (entered (built logix) w.stopped))))))

@@ -2,6 +2,7 @@
 use Rattle.std.proofs.Common.{◌≡◌, true, false, List, [], ◌∷◌, ◌++◌, Some, None, ap, sym, ◌∙◌, subst, refl, ◌⊎◌, inl, inr}
 use Rattle.std.specs.Prelude.{codes, fold}
 use Rattle.std.specs.List.{list_all}
+use Rattle.std.proofs.lemmas.Bool.{and_from, and_parts}
 use Rattle.fcp_model.specs.Spelling.{Bytes}
 use Rattle.clap.specs.declared.error.kind.ErrorKind.TheVariants.{InvalidValue, UnknownArgument}
 use Rattle.clap.specs.Kinds.{Kinds, or_else}
@@ -11,11 +12,11 @@ use Rattle.command_words.specs.declared.run_option.RunOption.{RunOption}
 use Rattle.command_words.specs.Commands.{name_of}
 use Rattle.command_words.specs.Orders.{is_long_or_plain}
 use Rattle.command_words.specs.Readings.{Part, apart, is_plain, is_plain_part, joined, option_word, positional, words_of}
-use Rattle.command_words.proofs.Forms.{IsLong, LongForm, apart_word, joined_word, long-form, other_word, plain-or-long, two-parts, two-whole}
-use Rattle.command_words.proofs.Levels.{file_rule, goal_rule, number_rule, run_leaf, run_rules}
+use Rattle.command_words.proofs.Forms.{IsLong, LongForm, apart_word, joined_word, long-form, other_word, plain-or-long}
+use Rattle.command_words.proofs.Levels.{Place, Slot, first, full, number_rule, place_behind, place_index, place_of, run_leaf, run_rules, second, slot_id, slot_rule, the_file, the_goal}
 use Rattle.command_words.proofs.Rows.{IsUsed, are_single, is-used}
-use Rattle.command_words.proofs.Tallies.{HasFound, IsAt, IsFound, Place, apart-found, file-found, file-placed, first, found-more, found-none, full, goal-found, goal-placed, joined-found, number-placed, place_index, second}
-use Rattle.command_words.proofs.Turns.{IsTurn, Pending, apart-turn, awaiting-fails, awaiting_at, both-none, file-turn, goal-turn, idle_at, joined-turn, other-fails, rows-number, rows_after_use, settle, settle-awaiting, settle-number, third-fails, turned, use-free, value-turn}
+use Rattle.command_words.proofs.Tallies.{HasFound, IsAt, IsFound, apart-found, found-more, found-none, joined-found, number-placed, word-found, word-free, word-placed}
+use Rattle.command_words.proofs.Turns.{IsTurn, Pending, apart-turn, awaiting-fails, awaiting_at, both-none, idle_at, joined-turn, other-fails, rows-number, rows-word, rows_after_use, settle, settle-awaiting, settle-number, third-fails, turned, use-free, value-turn, word-turn}
 
 -- ---- walks that pass
 
@@ -62,7 +63,7 @@ one-more : (p : Part) (all words : List Bytes) (rows after end last : List Row) 
 one-more p all words rows after end last found plain_part spell same h = record {
   parts = p ∷ h.parts;
   spelled = spell h.parts h.spelled;
-  plain = two-whole (is_plain_part p) (list_all is_plain_part h.parts) plain_part h.plain;
+  plain = and_from (is_plain_part p) (list_all is_plain_part h.parts) plain_part h.plain;
   found = found-more p h.parts rows after end found (subst (HasFound after h.parts) (sym same) h.found);
 }
 
@@ -122,40 +123,25 @@ number-ready o v rows place tidy e =
     (number-placed o place v rows (used (number_rule o) (v ∷ []) rows) tidy.0 u, u.single tidy.1)
 
 module _ (w : Bytes) (ws : List Bytes) (rest : AreRead ws) (formed : list_all is_long_or_plain ws ≡ true) where
-  file-read : (rows : List Row) (p : Pending) → IsReady (idle rows p first) → is_plain w ≡ true
-      → Passes (walk_at (idle rows p first)) (w ∷ ws)
-      → AreReadFrom (idle rows p first) (w ∷ ws)
-  file-read rows p ready plain_word h =
+  word-read : (s : Slot) (rows : List Row) (p : Pending) → IsReady (idle rows p (place_of s)) → is_plain w ≡ true
+      → Passes (walk_at (idle rows p (place_of s))) (w ∷ ws)
+      → AreReadFrom (idle rows p (place_of s)) (w ∷ ws)
+  word-read s rows p ready plain_word h =
       let now = rows_after_use rows p in
-      let t = file-turn rows p w plain_word in
-      let s = Some (codes "file", w ∷ []) in
-      let k = passes-turn (idle_at rows p 1) (idle_at now s 2) (settle rows p) w ws t h in
+      let q = Some (slot_id s, w ∷ []) in
+      let from = idle_at rows p (place_index (place_of s)) in
+      let next = idle_at now q (place_index (place_behind s)) in
+      let t = word-turn rows p w plain_word s in
+      let k = passes-turn from next (settle rows p) w ws t h in
       let here = ready k.0 in
-      let after = used file_rule (w ∷ []) now in
-      let u = is-used (codes "file") None (Some 1) w now here.0.0 in (
+      let after = used (slot_rule s) (w ∷ []) now in
+      let u = is-used (slot_id s) None (Some (place_index (place_of s))) w now (word-free s now here.0) in
+      let r = rest (idle now q (place_behind s))
+      (λ e. subst (IsTidy (place_behind s)) (sym (rows-word s w now)) (word-placed s w now after here.0 u, u.single here.1)) formed k.1 in (
         k.0,
-        one-more (positional w) (w ∷ ws) ws now after (rows_behind (idle_at rows p 1) (w ∷ ws)) (rows_behind (idle_at now s 2) ws)
-            (file-found w now after here.0 u) plain_word (λ ps e. ap (λ x. w ∷ x) e)
-            (same-end (idle_at rows p 1) (idle_at now s 2) (settle rows p) w ws t)
-            (rest (idle now s second) (λ e. (file-placed w now after here.0 u, u.single here.1)) formed k.1).1,
-      )
-
-  goal-read : (rows : List Row) (p : Pending) → IsReady (idle rows p second) → is_plain w ≡ true
-      → Passes (walk_at (idle rows p second)) (w ∷ ws)
-      → AreReadFrom (idle rows p second) (w ∷ ws)
-  goal-read rows p ready plain_word h =
-      let now = rows_after_use rows p in
-      let t = goal-turn rows p w plain_word in
-      let s = Some (codes "goal", w ∷ []) in
-      let k = passes-turn (idle_at rows p 2) (idle_at now s 3) (settle rows p) w ws t h in
-      let here = ready k.0 in
-      let after = used goal_rule (w ∷ []) now in
-      let u = is-used (codes "goal") None (Some 2) w now here.0.1 in (
-        k.0,
-        one-more (positional w) (w ∷ ws) ws now after (rows_behind (idle_at rows p 2) (w ∷ ws)) (rows_behind (idle_at now s 3) ws)
-            (goal-found w now after here.0 u) plain_word (λ ps e. ap (λ x. w ∷ x) e)
-            (same-end (idle_at rows p 2) (idle_at now s 3) (settle rows p) w ws t)
-            (rest (idle now s full) (λ e. (goal-placed w now after here.0 u, u.single here.1)) formed k.1).1,
+        one-more (positional w) (w ∷ ws) ws now after (rows_behind from (w ∷ ws)) (rows_behind next ws)
+            (word-found s w now after here.0 u) plain_word (λ ps e. ap (λ x. w ∷ x) e) (same-end from next (settle rows p) w ws t)
+            (subst (λ x. ArePartWords ws x (rows_behind next ws)) (rows-word s w now) r.1),
       )
 
   failed-turn : (from : Walk) → (turn_fault run_leaf [] from w ≡ [] → ⊥) → Passes from (w ∷ ws) → ⊥
@@ -166,8 +152,8 @@ module _ (w : Bytes) (ws : List Bytes) (rest : AreRead ws) (formed : list_all is
   plain-read : (rows : List Row) (p : Pending) (place : Place) → IsReady (idle rows p place) → is_plain w ≡ true
       → Passes (walk_at (idle rows p place)) (w ∷ ws)
       → AreReadFrom (idle rows p place) (w ∷ ws)
-  plain-read rows p first ready plain_word h = file-read rows p ready plain_word h
-  plain-read rows p second ready plain_word h = goal-read rows p ready plain_word h
+  plain-read rows p first ready plain_word h = word-read the_file rows p ready plain_word h
+  plain-read rows p second ready plain_word h = word-read the_goal rows p ready plain_word h
   plain-read rows p full ready plain_word h =
       absurd (failed-turn (idle_at rows p 3) (λ e. let bad : UnknownArgument ∷ [] ≡ [] = sym (third-fails rows p w plain_word) ∙ e in cc) h)
 
@@ -244,5 +230,5 @@ module _ (w : Bytes) (ws : List Bytes) (rest : AreRead ws) (formed : list_all is
 pub all-read : (words : List Bytes) → AreRead words
 all-read [] = read-none
 all-read (w ∷ ws) = λ s ready formed h.
-    let f = two-parts (is_long_or_plain w) (list_all is_long_or_plain ws) formed in
+    let f = and_parts (is_long_or_plain w) (list_all is_long_or_plain ws) formed in
     read-more w ws (all-read ws) f.1 s (plain-or-long w f.0) ready h

@@ -3,23 +3,22 @@ use Rattle.std.proofs.Common.{◌≡◌, ℕ, true, false, List, [], ◌∷◌, 
 use Rattle.std.specs.Prelude.{◌==◌, ◌||◌, codes, if◌then◌else◌, not}
 use Rattle.std.specs.Char.{is_ascii_digit}
 use Rattle.std.specs.List.{list_all}
-use Rattle.std.proofs.lemmas.Bool.{eqb-true}
+use Rattle.std.proofs.lemmas.Bool.{and_from, and_parts, cases_Bool, eqb-true}
 use Rattle.fcp_model.specs.Spelling.{Bytes}
 use Rattle.word_numbers.specs.Numbers.{digits_value, is_number, number_of}
 use Rattle.clap.specs.Kinds.{Kinds, or_else}
 use Rattle.clap.specs.Faults.{settle_fault, use_fault, walk_fault}
-use Rattle.clap.specs.Walk.{Row, Walk, has_row, used}
+use Rattle.clap.specs.Walk.{Row, Walk, used}
 use Rattle.command_words.specs.declared.run_option.RunOption.{RunOption}
 use Rattle.command_words.specs.declared.run_option.RunOption.TheVariants.{Commits, Moves, Cells}
 use Rattle.command_words.specs.Commands.{default_of, most_of, name_of}
 use Rattle.command_words.specs.Orders.{is_long_or_plain}
 use Rattle.command_words.specs.Readings.{Gives, Part, apart, is_plain, is_plain_part, is_same, joined, option_word, positional, positionals, values_of, words_of}
-use Rattle.command_words.proofs.Forms.{true-or-false, two-parts, two-whole}
-use Rattle.command_words.proofs.Levels.{file_rule, goal_rule, number_rule, run_leaf, run_rules}
+use Rattle.command_words.proofs.Levels.{Place, Slot, first, full, number_rule, place_behind, place_index, place_of, run_leaf, run_rules, second, slot_id, slot_rule, the_file, the_goal}
 use Rattle.command_words.proofs.PartWords.{IsTidy, Passes, end_of, rows_behind}
 use Rattle.command_words.proofs.Rows.{are_single, is-used, no-row, one-text, texts_at}
-use Rattle.command_words.proofs.Tallies.{HasFound, IsFound, Place, apart-found, file-found, file-placed, first, found-more, found-none, full, goal-found, goal-placed, joined-found, number-placed, place_index, second, values_with, words_with}
-use Rattle.command_words.proofs.Turns.{IsTurn, Pending, apart-turn, awaiting_at, file-turn, goal-turn, idle_at, joined-turn, rows-number, rows_after_use, settle, settle-number, turned, use-passes, value-turn}
+use Rattle.command_words.proofs.Tallies.{HasFound, IsFound, apart-found, found-more, found-none, joined-found, number-placed, values_with, word-found, word-free, word-placed, words_with}
+use Rattle.command_words.proofs.Turns.{IsTurn, Pending, apart-turn, awaiting_at, idle_at, joined-turn, rows-number, rows-word, rows_after_use, settle, settle-number, settle-word, turned, use-passes, value-turn, word-turn}
 
 -- ---- numbers have no `-` in front
 
@@ -31,12 +30,12 @@ digit-plain b (inl t) e =
 
 number-plain : (most_digits most : ℕ) (v : Bytes) (n : ℕ) → number_of most_digits most v ≡ Some n → is_plain v ≡ true
 number-plain most_digits most [] n e = refl
-number-plain most_digits most (b ∷ bs) n e = go (true-or-false (is_number most_digits most (b ∷ bs)))
+number-plain most_digits most (b ∷ bs) n e = go (cases_Bool (is_number most_digits most (b ∷ bs)))
   where
     go : (is_number most_digits most (b ∷ bs) ≡ true) ⊎ (is_number most_digits most (b ∷ bs) ≡ false) → is_plain (b ∷ bs) ≡ true
     go (inl t) =
-        let digits = (two-parts _ _ (two-parts _ _ t).0).1 in
-        digit-plain b (true-or-false (b == 45)) (two-parts (is_ascii_digit b) (list_all is_ascii_digit bs) digits).0
+        let digits = (and_parts _ _ (and_parts _ _ t).0).1 in
+        digit-plain b (cases_Bool (b == 45)) (and_parts (is_ascii_digit b) (list_all is_ascii_digit bs) digits).0
     go (inr f) =
         let w = b ∷ bs in
         let bad : None ≡ Some n = ap (λ t. if t then Some (digits_value w) else None) (sym f) ∙ e in
@@ -137,7 +136,7 @@ word-taken : (w next : Walk) (kinds : Kinds) (word : Bytes) (words : List Bytes)
     → AreTaken w (word ∷ words) rows parts
 word-taken w next kinds word words rows parts t none formed taken = record {
   passes = passes-before w next kinds word words t none taken.passes;
-  formed = two-whole (is_long_or_plain word) (list_all is_long_or_plain words) formed taken.formed;
+  formed = and_from (is_long_or_plain word) (list_all is_long_or_plain words) formed taken.formed;
   found = subst (HasFound rows parts) (sym (ap (λ n. rows_behind n words) t.leads)) taken.found;
 }
 
@@ -163,33 +162,24 @@ module _ (ps : List Part) (rest : AreTakenFrom ps) (rows : List Row) (p : Pendin
   abbrev now : List Row
   now = rows_after_use rows p
 
-  file-taken : (w : Bytes) → IsTidy first now → AsksWith now (positional w ∷ ps)
-      → AreTaken (idle_at rows p 1) (w ∷ words_of ps) now (positional w ∷ ps)
-  file-taken w tidy asks =
-      let both = two-parts (is_plain w) (list_all is_plain_part ps) asks.plain in
-      let s = Some (codes "file", w ∷ []) in
-      let after = used file_rule (w ∷ []) now in
-      let u = is-used (codes "file") None (Some 1) w now tidy.0.0 in
-      let found = file-found w now after tidy.0 u in
-      part-taken (idle_at rows p 1) (positional w) (w ∷ words_of ps) now after ps found
-      (word-taken (idle_at rows p 1) (idle_at now s 2) (settle rows p) w (words_of ps) after ps (file-turn rows p w both.0) settles
-      (plain-stands w both.0)
-      (rest now s second (file-placed w now after tidy.0 u, u.single tidy.1)
-      (use-passes (codes "file") None (Some 1) w now tidy.0.0) (asks-behind (positional w) ps now after found both.1 asks)))
-
-  goal-taken : (w : Bytes) → IsTidy second now → AsksWith now (positional w ∷ ps)
-      → AreTaken (idle_at rows p 2) (w ∷ words_of ps) now (positional w ∷ ps)
-  goal-taken w tidy asks =
-      let both = two-parts (is_plain w) (list_all is_plain_part ps) asks.plain in
-      let s = Some (codes "goal", w ∷ []) in
-      let after = used goal_rule (w ∷ []) now in
-      let u = is-used (codes "goal") None (Some 2) w now tidy.0.1 in
-      let found = goal-found w now after tidy.0 u in
-      part-taken (idle_at rows p 2) (positional w) (w ∷ words_of ps) now after ps found
-      (word-taken (idle_at rows p 2) (idle_at now s 3) (settle rows p) w (words_of ps) after ps (goal-turn rows p w both.0) settles
-      (plain-stands w both.0)
-      (rest now s full (goal-placed w now after tidy.0 u, u.single tidy.1)
-      (use-passes (codes "goal") None (Some 2) w now tidy.0.1) (asks-behind (positional w) ps now after found both.1 asks)))
+  word-goes : (s : Slot) (w : Bytes) → IsTidy (place_of s) now → AsksWith now (positional w ∷ ps)
+      → AreTaken (idle_at rows p (place_index (place_of s))) (w ∷ words_of ps) now (positional w ∷ ps)
+  word-goes s w tidy asks =
+      let both = and_parts (is_plain w) (list_all is_plain_part ps) asks.plain in
+      let q = Some (slot_id s, w ∷ []) in
+      let from = idle_at rows p (place_index (place_of s)) in
+      let next = idle_at now q (place_index (place_behind s)) in
+      let after = used (slot_rule s) (w ∷ []) now in
+      let free = word-free s now tidy.0 in
+      let u = is-used (slot_id s) None (Some (place_index (place_of s))) w now free in
+      let found = word-found s w now after tidy.0 u in
+      let is_after = sym (rows-word s w now) in
+      part-taken from (positional w) (w ∷ words_of ps) now after ps found
+      (word-taken from next (settle rows p) w (words_of ps) after ps (word-turn rows p w both.0 s) settles (plain-stands w both.0)
+      (subst (λ x. AreTaken next (words_of ps) x ps) (rows-word s w now)
+      (rest now q (place_behind s) (subst (IsTidy (place_behind s)) is_after (word-placed s w now after tidy.0 u, u.single tidy.1))
+      (settle-word s w now ∙ use-passes (slot_id s) None (Some (place_index (place_of s))) w now free)
+      (subst (λ x. AsksWith x ps) is_after (asks-behind (positional w) ps now after found both.1 asks)))))
 
   -- there is no third
   none-third : (w : Bytes) → IsTidy full now → AsksWith now (positional w ∷ ps) → ⊥
@@ -203,8 +193,8 @@ module _ (ps : List Part) (rest : AreTakenFrom ps) (rows : List Row) (p : Pendin
 
   positional-taken : (w : Bytes) (place : Place) → IsTidy place now → AsksWith now (positional w ∷ ps)
       → AreTaken (idle_at rows p (place_index place)) (w ∷ words_of ps) now (positional w ∷ ps)
-  positional-taken w first tidy asks = file-taken w tidy asks
-  positional-taken w second tidy asks = goal-taken w tidy asks
+  positional-taken w first tidy asks = word-goes the_file w tidy asks
+  positional-taken w second tidy asks = word-goes the_goal w tidy asks
   positional-taken w full tidy asks = absurd (none-third w tidy asks)
 
   -- a value of an option that has none yet

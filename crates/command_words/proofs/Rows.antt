@@ -6,10 +6,11 @@ use Rattle.std.specs.Option.{option_map_or}
 use Rattle.std.specs.Str.{bytes_eq}
 use Rattle.std.proofs.lemmas.List.{append-nil}
 use Rattle.std.proofs.lemmas.Slice.Eq.{bytes_eq-Decides}
+use Rattle.std.proofs.lemmas.Bool.{and_from, and_parts, cases_Bool, or_parts}
 use Rattle.fcp_model.specs.Spelling.{Bytes}
 use Rattle.clap.specs.declared.parser.matches.ValueSource.TheVariants.{CommandLine}
 use Rattle.clap.specs.Walk.{Row, Rule, at_row, first_of, has_row, more_values, reading_by, used}
-use Rattle.command_words.proofs.Forms.{is_word, true-or-false, two-parts, two-whole}
+use Rattle.command_words.proofs.Forms.{is_word}
 use Rattle.command_words.proofs.Levels.{given_rule}
 
 -- the values of an argument
@@ -29,15 +30,11 @@ are_single rows = list_all (λ r. is_one r.values) rows
 new_row : Rule → Bytes → Row
 new_row a v = record { id = a.id; values = v ∷ []; count = None; source = Some CommandLine; reading = reading_by a }
 
-both-no : (a b : Bool) → (a || b) ≡ false → (a ≡ false) × (b ≡ false)
-both-no true b e = cc
-both-no false b e = (refl, e)
-
 row-added : (i : Bytes) (change : Row → List Row) (missing rows : List Row) → has_row i rows ≡ false
     → at_row i change missing rows ≡ rows ++ missing
 row-added i change missing [] e = refl
 row-added i change missing (r ∷ rs) e =
-    let b = both-no (bytes_eq r.id i) (has_row i rs) e in
+    let b = or_parts (bytes_eq r.id i) (has_row i rs) e in
     rw (b.0) (ap (λ x. r ∷ x) (row-added i change missing rs b.1))
 
 use-adds : (id : Bytes) (long : Option Bytes) (index : Option ℕ) (v : Bytes) (rows : List Row) → has_row id rows ≡ false
@@ -49,7 +46,7 @@ use-adds id long index v rows e =
     ∙ row-added id (more_values CommandLine (v ∷ [])) (new_row a v ∷ []) rows e
 
 apart-ids : (a b i : Bytes) → bytes_eq a i ≡ true → bytes_eq a b ≡ false → bytes_eq b i ≡ false
-apart-ids a b i s n = go (true-or-false (bytes_eq b i))
+apart-ids a b i s n = go (cases_Bool (bytes_eq b i))
   where
     go : (bytes_eq b i ≡ true) ⊎ (bytes_eq b i ≡ false) → bytes_eq b i ≡ false
     go (inr f) = f
@@ -66,8 +63,8 @@ texts-added row [] i e = go (bytes_eq row.id i)
     go true = refl
     go false = refl
 texts-added row (r ∷ rs) i e =
-    let b = both-no (bytes_eq r.id row.id) (has_row row.id rs) e in
-    go (true-or-false (bytes_eq r.id i)) b.0 (texts-added row rs i b.1)
+    let b = or_parts (bytes_eq r.id row.id) (has_row row.id rs) e in
+    go (cases_Bool (bytes_eq r.id i)) b.0 (texts-added row rs i b.1)
   where
     go : (bytes_eq r.id i ≡ true) ⊎ (bytes_eq r.id i ≡ false) → bytes_eq r.id row.id ≡ false
         → texts_at i (rs ++ row ∷ []) ≡ (if bytes_eq row.id i then row.values else texts_at i rs)
@@ -85,10 +82,10 @@ has-added row (r ∷ rs) i = go (bytes_eq r.id i) (bytes_eq row.id i) (has-added
     go false b ih = ih
 
 single-added : (row : Row) (rows : List Row) → is_one row.values ≡ true → are_single rows ≡ true → are_single (rows ++ row ∷ []) ≡ true
-single-added row [] o s = two-whole (is_one row.values) true o refl
+single-added row [] o s = and_from (is_one row.values) true o refl
 single-added row (r ∷ rs) o s =
-    let p = two-parts (is_one r.values) (are_single rs) s in
-    two-whole (is_one r.values) (are_single (rs ++ row ∷ [])) p.0 (single-added row rs o p.1)
+    let p = and_parts (is_one r.values) (are_single rs) s in
+    and_from (is_one r.values) (are_single (rs ++ row ∷ [])) p.0 (single-added row rs o p.1)
 
 -- ---- a use of an argument that has no value yet
 
@@ -113,7 +110,7 @@ is-used id long index v rows e =
 pub none-texts : (i : Bytes) (rows : List Row) → has_row i rows ≡ false → texts_at i rows ≡ []
 none-texts i [] e = refl
 none-texts i (r ∷ rs) e =
-    let b = both-no (bytes_eq r.id i) (has_row i rs) e in
+    let b = or_parts (bytes_eq r.id i) (has_row i rs) e in
     rw (b.0) (none-texts i rs b.1)
 
 is-one : (vs : List Bytes) → is_one vs ≡ true → (v : Bytes) × (vs ≡ v ∷ [])
@@ -129,8 +126,8 @@ one-behind i r rs f k = (k.0, rw f k.1)
 pub one-text : (i : Bytes) (rows : List Row) → are_single rows ≡ true → has_row i rows ≡ true → (v : Bytes) × (texts_at i rows ≡ v ∷ [])
 one-text i [] s e = cc
 one-text i (r ∷ rs) s e =
-    let p = two-parts (is_one r.values) (are_single rs) s in
-    go (true-or-false (bytes_eq r.id i)) e (is-one r.values p.0) (one-text i rs p.1)
+    let p = and_parts (is_one r.values) (are_single rs) s in
+    go (cases_Bool (bytes_eq r.id i)) e (is-one r.values p.0) (one-text i rs p.1)
   where
     go : (bytes_eq r.id i ≡ true) ⊎ (bytes_eq r.id i ≡ false) → (bytes_eq r.id i || has_row i rs) ≡ true
         → (v : Bytes) × (r.values ≡ v ∷ [])
@@ -140,7 +137,7 @@ one-text i (r ∷ rs) s e =
     go (inr f) h own rest = one-behind i r rs f (rest (ap (λ b. b || has_row i rs) (sym f) ∙ h))
 
 pub no-row : (i : Bytes) (rows : List Row) → are_single rows ≡ true → texts_at i rows ≡ [] → has_row i rows ≡ false
-no-row i rows s e = go (true-or-false (has_row i rows))
+no-row i rows s e = go (cases_Bool (has_row i rows))
   where
     go : (has_row i rows ≡ true) ⊎ (has_row i rows ≡ false) → has_row i rows ≡ false
     go (inr f) = f
@@ -157,7 +154,7 @@ first-text i rows = go (find (λ r. bytes_eq r.id i) rows)
 -- the values with more behind them, before and after a use
 pub more-texts : (id v : Bytes) (rows after : List Row) → IsUsed id v rows after → has_row id rows ≡ false → (i : Bytes) (vs : List Bytes)
     → texts_at i after ++ vs ≡ texts_at i rows ++ (if bytes_eq id i then v ∷ vs else vs)
-more-texts id v rows after u e i vs = go (true-or-false (bytes_eq id i))
+more-texts id v rows after u e i vs = go (cases_Bool (bytes_eq id i))
   where
     go : (bytes_eq id i ≡ true) ⊎ (bytes_eq id i ≡ false)
         → texts_at i after ++ vs ≡ texts_at i rows ++ (if bytes_eq id i then v ∷ vs else vs)

@@ -2,6 +2,7 @@
 use Rattle.std.proofs.Common.{◌≡◌, ℕ, Bool, true, false, List, [], ◌∷◌, ◌++◌, Option, Some, None, ap, sym, ◌∙◌, subst, refl, ◌⊎◌, inl, inr}
 use Rattle.std.specs.Prelude.{codes, fold, slice_get}
 use Rattle.std.specs.List.{list_all}
+use Rattle.std.proofs.lemmas.Bool.{cases_Bool}
 use Rattle.fcp_model.specs.declared.run.Limits.{Limits}
 use Rattle.fcp_model.specs.Spelling.{Bytes}
 use Rattle.clap.specs.Kinds.{Kinds, or_else}
@@ -14,12 +15,11 @@ use Rattle.command_words.specs.declared.run_option.RunOption.TheVariants.{Commit
 use Rattle.command_words.specs.Commands.{default_of, most_of, name_of}
 use Rattle.command_words.specs.Orders.{is_long_or_plain, limits_from, limits_in, number_from, number_in, run_from, run_in}
 use Rattle.command_words.specs.Readings.{AreRunParts, Gives, Part, values_of, words_of}
-use Rattle.command_words.proofs.Forms.{true-or-false}
-use Rattle.command_words.proofs.Levels.{run_leaf, run_rules}
+use Rattle.command_words.proofs.Levels.{first, run_leaf, run_rules}
 use Rattle.command_words.proofs.PartWords.{ArePartWords, Passes, all-read, idle, rows_behind}
 use Rattle.command_words.proofs.PassingParts.{AreTaken, AsksWith, all-taken}
 use Rattle.command_words.proofs.Rows.{are_single, first-text, none-texts, one-text, texts_at}
-use Rattle.command_words.proofs.Tallies.{HasFound, first}
+use Rattle.command_words.proofs.Tallies.{HasFound}
 use Rattle.command_words.proofs.Turns.{both-none, idle_at}
 
 -- ---- behind the last word
@@ -80,7 +80,7 @@ run-found words = (no-defaults run_rules (rows_behind (idle_at [] None 1) words)
 -- ---- one value or none
 
 text-or-none : (i : Bytes) (rows : List Row) → are_single rows ≡ true → (texts_at i rows ≡ []) ⊎ ((v : Bytes) × (texts_at i rows ≡ v ∷ []))
-text-or-none i rows s = go (true-or-false (has_row i rows))
+text-or-none i rows s = go (cases_Bool (has_row i rows))
   where
     go : (has_row i rows ≡ true) ⊎ (has_row i rows ≡ false) → (texts_at i rows ≡ []) ⊎ ((v : Bytes) × (texts_at i rows ≡ v ∷ []))
     go (inl t) = inr (one-text i rows s t)

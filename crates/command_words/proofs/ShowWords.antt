@@ -2,6 +2,7 @@
 use Rattle.std.proofs.Common.{◌≡◌, true, false, List, [], ◌∷◌, Some, ap, sym, ◌∙◌, refl, ◌⊎◌, inl, inr}
 use Rattle.std.specs.Prelude.{codes}
 use Rattle.std.specs.List.{list_all}
+use Rattle.std.proofs.lemmas.Bool.{and_parts}
 use Rattle.fcp_model.specs.Spelling.{Bytes}
 use Rattle.clap.specs.declared.error.kind.ErrorKind.TheVariants.{UnknownArgument}
 use Rattle.clap.specs.Faults.{defaults_fault, level_fault, turn_fault, walk_fault}
@@ -10,7 +11,7 @@ use Rattle.command_words.specs.declared.order.Order.{Order}
 use Rattle.command_words.specs.declared.order.Order.TheVariants.{Show}
 use Rattle.command_words.specs.Orders.{is_long_or_plain, show_in}
 use Rattle.command_words.specs.Readings.{is_plain}
-use Rattle.command_words.proofs.Forms.{IsLong, plain-or-long, plain-word, two-parts}
+use Rattle.command_words.proofs.Forms.{IsLong, plain-or-long, plain-word}
 use Rattle.command_words.proofs.Levels.{file_rule, show_leaf}
 use Rattle.command_words.proofs.Turns.{both-none, idle_at}
 
@@ -73,7 +74,7 @@ file-read w (v ∷ vs) o (inl p) formed passes e =
     let rest = (both-none (turn_fault show_leaf [] (walk_from nothing_held) w) _ passes).1 in
     let next = ap (λ n. walk_fault show_leaf [] n (v ∷ vs)) (sym (file-leads w p)) ∙ rest in
     let none = (both-none (turn_fault show_leaf [] (behind-file w p) v) _ next).0 in
-    let f = two-parts (is_long_or_plain v) (list_all is_long_or_plain vs) formed in
+    let f = and_parts (is_long_or_plain v) (list_all is_long_or_plain vs) formed in
     let bad : UnknownArgument ∷ [] ≡ [] = sym (second-fails w p v (plain-or-long v f.0)) ∙ none in
     cc
 
@@ -83,5 +84,5 @@ pub show-read : (words : List Bytes) (o : Order) → list_all is_long_or_plain w
     → IsFile words o
 show-read [] o formed passes e = cc
 show-read (w ∷ ws) o formed passes e =
-    let f = two-parts (is_long_or_plain w) (list_all is_long_or_plain ws) formed in
+    let f = and_parts (is_long_or_plain w) (list_all is_long_or_plain ws) formed in
     file-read w ws o (plain-or-long w f.0) f.1 (no-walk (w ∷ ws) passes) e

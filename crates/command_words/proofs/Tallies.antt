@@ -1,5 +1,5 @@
 -- The words of parts beside what the parser has found.
-use Rattle.std.proofs.Common.{◌≡◌, ℕ, true, false, List, [], ◌∷◌, ◌++◌, ap, sym, ◌∙◌, refl}
+use Rattle.std.proofs.Common.{◌≡◌, true, false, List, [], ◌∷◌, ◌++◌, ap, sym, ◌∙◌, refl}
 use Rattle.std.specs.Prelude.{◌||◌, codes, if◌then◌else◌}
 use Rattle.std.specs.Str.{bytes_eq}
 use Rattle.std.proofs.lemmas.List.{append-nil}
@@ -9,29 +9,24 @@ use Rattle.command_words.specs.declared.run_option.RunOption.{RunOption}
 use Rattle.command_words.specs.declared.run_option.RunOption.TheVariants.{Commits, Moves, Cells}
 use Rattle.command_words.specs.Commands.{name_of}
 use Rattle.command_words.specs.Readings.{Part, apart, is_same, joined, positional, positionals, values_of}
+use Rattle.command_words.proofs.Levels.{Place, Slot, first, full, place_behind, place_of, second, slot_id, the_file, the_goal}
 use Rattle.command_words.proofs.Rows.{IsUsed, are_single, more-texts, none-texts, texts_at}
 
 -- ---- the positional words that were found
-
-pub data Place : Type 0 where
-  first second full : Place
-
--- a positional word is the k-th
-abbrev pub place_index : Place → ℕ
-place_index first = 1
-place_index second = 2
-place_index full = 3
 
 abbrev pub IsAt : Place → List Row → Type 0
 IsAt first rows = (has_row (codes "file") rows ≡ false) × (has_row (codes "goal") rows ≡ false)
 IsAt second rows = (has_row (codes "file") rows ≡ true) × (has_row (codes "goal") rows ≡ false)
 IsAt full rows = (has_row (codes "file") rows ≡ true) × (has_row (codes "goal") rows ≡ true)
 
-pub file-placed : (w : Bytes) (rows after : List Row) → IsAt first rows → IsUsed (codes "file") w rows after → IsAt second after
-file-placed w rows after h u = (u.has (codes "file"), u.has (codes "goal") ∙ h.1)
+pub word-free : (s : Slot) (rows : List Row) → IsAt (place_of s) rows → has_row (slot_id s) rows ≡ false
+word-free the_file rows h = h.0
+word-free the_goal rows h = h.1
 
-pub goal-placed : (w : Bytes) (rows after : List Row) → IsAt second rows → IsUsed (codes "goal") w rows after → IsAt full after
-goal-placed w rows after h u = (u.has (codes "file") ∙ h.0, u.has (codes "goal"))
+pub word-placed : (s : Slot) (w : Bytes) (rows after : List Row) → IsAt (place_of s) rows → IsUsed (slot_id s) w rows after
+    → IsAt (place_behind s) after
+word-placed the_file w rows after h u = (u.has (codes "file"), u.has (codes "goal") ∙ h.1)
+word-placed the_goal w rows after h u = (u.has (codes "file") ∙ h.0, u.has (codes "goal"))
 
 no-file : (o : RunOption) → bytes_eq (name_of o) (codes "file") ≡ false
 no-file Commits = refl
@@ -86,7 +81,7 @@ goal-number Commits = refl
 goal-number Moves = refl
 goal-number Cells = refl
 
-pub file-found : (w : Bytes) (rows after : List Row) → IsAt first rows → IsUsed (codes "file") w rows after
+file-found : (w : Bytes) (rows after : List Row) → IsAt first rows → IsUsed (codes "file") w rows after
     → IsFound (positional w) rows after
 file-found w rows after h u =
     let file : texts_at (codes "file") after ≡ w ∷ [] = u.texts (codes "file") in
@@ -98,7 +93,7 @@ file-found w rows after h u =
       values = λ o parts. ap (λ x. x ++ values_of o parts) (other-values (codes "file") w o rows after u (file-number o));
     }
 
-pub goal-found : (w : Bytes) (rows after : List Row) → IsAt second rows → IsUsed (codes "goal") w rows after
+goal-found : (w : Bytes) (rows after : List Row) → IsAt second rows → IsUsed (codes "goal") w rows after
     → IsFound (positional w) rows after
 goal-found w rows after h u =
     let file : texts_at (codes "file") after ≡ texts_at (codes "file") rows = u.texts (codes "file") in
@@ -108,6 +103,11 @@ goal-found w rows after h u =
           ∙ ap (λ x. texts_at (codes "file") rows ++ x) (more-texts (codes "goal") w rows after u h.1 (codes "goal") (positionals parts));
       values = λ o parts. ap (λ x. x ++ values_of o parts) (other-values (codes "goal") w o rows after u (goal-number o));
     }
+
+pub word-found : (s : Slot) (w : Bytes) (rows after : List Row) → IsAt (place_of s) rows → IsUsed (slot_id s) w rows after
+    → IsFound (positional w) rows after
+word-found the_file w rows after h u = file-found w rows after h u
+word-found the_goal w rows after h u = goal-found w rows after h u
 
 same-names : (o p : RunOption) → bytes_eq (name_of p) (name_of o) ≡ is_same o p
 same-names Commits Commits = refl

@@ -13,7 +13,7 @@ use Rattle.command_words.specs.declared.run_option.RunOption.TheVariants.{Commit
 use Rattle.command_words.specs.Commands.{name_of}
 use Rattle.command_words.specs.Readings.{is_plain, option_word}
 use Rattle.command_words.proofs.Forms.{IsLong, IsPlainWord, dashes, long-rule, plain-word}
-use Rattle.command_words.proofs.Levels.{file_rule, given_rule, goal_rule, number_rule, or_else-none, run_leaf, run_rules}
+use Rattle.command_words.proofs.Levels.{Slot, given_rule, number_rule, or_else-none, place_behind, place_index, place_of, run_leaf, run_rules, slot_id, slot_rule, the_file, the_goal}
 
 -- ---- where the parser stands between two words
 
@@ -92,24 +92,31 @@ rows-number Cells v rows = refl
 
 -- ---- positional words
 
-module _ (rows : List Row) (p : Pending) (word : Bytes) (plain_word : is_plain word ≡ true) where
-  pub file-turn : IsTurn (idle_at rows p 1) word (settle rows p) (idle_at (rows_after_use rows p) (Some (codes "file", word ∷ [])) 2)
-  unfolding walked
-  file-turn = go (is_pending file_rule p) refl (plain-word word plain_word)
-    where
-      go : (b : Bool) → is_pending file_rule p ≡ b → IsPlainWord word
-          → IsTurn (idle_at rows p 1) word (settle rows p) (idle_at (rows_after_use rows p) (Some (codes "file", word ∷ [])) 2)
-      go true e w = record { fault = rw (w.no_end, w.no_long, w.no_short, e); leads = rw (w.no_end, w.no_long, w.no_short, e) }
-      go false e w = record { fault = rw (w.no_end, w.no_long, w.no_short, e); leads = rw (w.no_end, w.no_long, w.no_short, e) }
+pub settle-word : (s : Slot) (v : Bytes) (rows : List Row)
+    → settle rows (Some (slot_id s, v ∷ [])) ≡ use_fault false (slot_rule s) (v ∷ []) rows
+settle-word the_file v rows = refl
+settle-word the_goal v rows = refl
 
-  pub goal-turn : IsTurn (idle_at rows p 2) word (settle rows p) (idle_at (rows_after_use rows p) (Some (codes "goal", word ∷ [])) 3)
+pub rows-word : (s : Slot) (v : Bytes) (rows : List Row)
+    → rows_after_use rows (Some (slot_id s, v ∷ [])) ≡ used (slot_rule s) (v ∷ []) rows
+rows-word the_file v rows = refl
+rows-word the_goal v rows = refl
+
+module _ (rows : List Row) (p : Pending) (word : Bytes) (plain_word : is_plain word ≡ true) where
+  abbrev IsWordTurn : Slot → Type 0
+  IsWordTurn s =
+      IsTurn (idle_at rows p (place_index (place_of s))) word (settle rows p)
+      (idle_at (rows_after_use rows p) (Some (slot_id s, word ∷ [])) (place_index (place_behind s)))
+
+  pub word-turn : (s : Slot) → IsWordTurn s
   unfolding walked
-  goal-turn = go (is_pending goal_rule p) refl (plain-word word plain_word)
+  word-turn s = go s (is_pending (slot_rule s) p) refl (plain-word word plain_word)
     where
-      go : (b : Bool) → is_pending goal_rule p ≡ b → IsPlainWord word
-          → IsTurn (idle_at rows p 2) word (settle rows p) (idle_at (rows_after_use rows p) (Some (codes "goal", word ∷ [])) 3)
-      go true e w = record { fault = rw (w.no_end, w.no_long, w.no_short, e); leads = rw (w.no_end, w.no_long, w.no_short, e) }
-      go false e w = record { fault = rw (w.no_end, w.no_long, w.no_short, e); leads = rw (w.no_end, w.no_long, w.no_short, e) }
+      go : (s : Slot) (b : Bool) → is_pending (slot_rule s) p ≡ b → IsPlainWord word → IsWordTurn s
+      go the_file true e w = record { fault = rw (w.no_end, w.no_long, w.no_short, e); leads = rw (w.no_end, w.no_long, w.no_short, e) }
+      go the_file false e w = record { fault = rw (w.no_end, w.no_long, w.no_short, e); leads = rw (w.no_end, w.no_long, w.no_short, e) }
+      go the_goal true e w = record { fault = rw (w.no_end, w.no_long, w.no_short, e); leads = rw (w.no_end, w.no_long, w.no_short, e) }
+      go the_goal false e w = record { fault = rw (w.no_end, w.no_long, w.no_short, e); leads = rw (w.no_end, w.no_long, w.no_short, e) }
 
   -- there is no third
   pub third-fails : turn_fault run_leaf [] (idle_at rows p 3) word ≡ UnknownArgument ∷ []

@@ -42,8 +42,8 @@ fn are_allowed(words: &[String]) -> bool
     words.iter().all(|word| is_allowed(word.as_str()))
 }
 
-/// Whether a word may stand in a call: the parser would take an empty one, a longer one, `--` and `-`, and read options of one
-/// letter.
+/// Whether a word may stand in a call. The parser would take an empty one, a longer one, `--` and `-`, and would look for options
+/// of one letter.
 fn is_allowed(word: &str) -> bool
     ensures { result ≡ spec.is_allowed word.now }
 {
