@@ -24,6 +24,7 @@ use Rattle.goal_layout.specs.PieceSizes.{goal_sizes}
 use Rattle.goal_layout.specs.Pages.{room, rooms_from, rooms, ArePages}
 use Rattle.goal_layout.specs.Items.{IsNarrowGoal, IsNumberIn, IsLayable, LaysItem, called}
 use Rattle.goal_layout.specs.Goals.{AreNew, AreNarrowGoals, MayBeLaid, LaysPlaces, LaysGoal, goal_pieces}
+use Rattle.goal_layout.proofs.Leaves.{place_listed}
 use Rattle.goal_layout.proofs.Lays.{first_fit-append}
 use Rattle.goal_layout.proofs.Placing.{new_page}
 use Rattle.goal_layout.proofs.FirstStates.{Standing, places_stand, goal_misses, standing_more}
@@ -161,6 +162,7 @@ items_end g n base ws first m new l hi s =
           (omega (arith, size, items)) r.1;
       stands = first_stands (length g.0.names) l.variables (started_goals m g.0) n base ws r.0 (omega (arith, size, hi))
           (omega (arith, size, items)) r.1;
+      places = λ k lo hi'. place_listed 1 (length g.0.names) k lo (omega (arith, hi'));
       first = r.2;
       tops = λ q h. let up = pages.above q (omega (arith, h, r.1.size)) in omega (arith, new_page base new q h, up);
     }

@@ -36,7 +36,7 @@ AreNarrowGoals (g ∷ gs) = IsNarrowGoal g × AreNarrowGoals gs
 
 -- What laying asks of a goal, with the numbers of its procedures. Each goal that is read from a text and loads has it.
 pub record MayBeLaid (m : Module) (g : GoalText × List ℕ) : Type 0 where
-  -- the numbers are those of the module, which has fewer procedures than there are numbers below the built-in ones
+  -- the numbers are those of the module, which has at most as many procedures as there are numbers below the built-in ones
   pub numbers : AreNumbersOf m g.0.items g.1
   pub procedures : length (procedure_names m.clauses) ≤ TRUE_PROCEDURE
   -- there are items, and not too many of them

@@ -58,9 +58,11 @@ one_more ws a fs f e is h = record {
       (λ (s : f ≡ g). subst (λ (z : Found). (z.process < a + 1) × IsFound ws z) s (omega (arith, e), is)) (Contains-push_cases fs f g i);
   once = IsDistinct-push one_equivalence fs f h.once
       (list_any_none (is_one f) fs
-      (λ k d l. let t : (get_or fs k d).process < a = (h.only (get_or fs k d) (Contains-get_or fs k d l)).0 in grind (arith, nat_tests, t, e)));
+      (λ k d l.
+      let t : (get_or fs k d).process < a = (h.only (get_or fs k d) (Contains-get_or fs k d l)).0 in grind (arith, nat_tests, t, e)));
 }
   where
-    here : (b : ℕ) → At (inside_at ws) b (Status Ready) → (b < a) ⊎ (a ≤ b) → b < a + 1 → (g : Found) × Contains (fs ++ f ∷ []) g × (g.process ≡ b)
+    here : (b : ℕ) → At (inside_at ws) b (Status Ready) → (b < a) ⊎ (a ≤ b) → b < a + 1
+        → (g : Found) × Contains (fs ++ f ∷ []) g × (g.process ≡ b)
     here b r (inl i) l = let t = h.all b i r in (t.0, Contains-append_left fs (f ∷ []) t.0 t.1, t.2)
     here b r (inr i) l = (f, Contains-push fs f, omega (arith, e))

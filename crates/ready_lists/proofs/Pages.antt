@@ -54,7 +54,8 @@ at_from_place ws a d c i e = (get_or ws a d, inside_is ws a _ i (slice_get-get_o
 pub first_is_top : (ws : List ℕ) (p : ℕ) → IsHeap ws → 1024 * p < length ws → At (inside_at ws) (1024 * p) (Status Ready) → ⊥
 first_is_top ws p heap there h =
     let up : 1024 * p < top_at ws (1024 * p) = heap.above p there in
-    let zero : 0 ≡ top_at ws (1024 * p) = ap top_said (sym (cell_at_place ws (1024 * p) 0 (Status Ready) h)) ∙ top_is ws (1024 * p) 0 there in
+    let zero : 0 ≡ top_at ws (1024 * p) =
+    ap top_said (sym (cell_at_place ws (1024 * p) 0 (Status Ready) h)) ∙ top_is ws (1024 * p) 0 there in
     omega arith
 
 -- behind a status another word stands

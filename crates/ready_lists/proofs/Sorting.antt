@@ -53,8 +53,8 @@ address_at [] f k l e = absurd (omega (arith, l))
 address_at (g ∷ gs) f zero l e = inl (ap (λ (z : Found). z.process) e)
 address_at (g ∷ gs) f (suc k) l e = inr (address_at gs f k (omega (arith, l)) e)
 
-differs : (f g : Found) (fs : List Found) → AllByRecursion (λ z. is_one f z ≡ false) fs → (k : ℕ) → k < length fs → slice_index_or fs k g ≡ g
-    → is_one f g ≡ false
+differs : (f g : Found) (fs : List Found) → AllByRecursion (λ z. is_one f z ≡ false) fs → (k : ℕ) → k < length fs
+    → slice_index_or fs k g ≡ g → is_one f g ≡ false
 differs f g [] h k l e = absurd (omega (arith, l))
 differs f g (z ∷ zs) h zero l e = subst (λ (y : Found). is_one f y ≡ false) e h.0
 differs f g (z ∷ zs) h (suc k) l e = differs f g zs h.1 k (omega (arith, l)) e

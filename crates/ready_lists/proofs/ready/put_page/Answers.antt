@@ -24,7 +24,8 @@ pub loop-addr-preserved : goal.loop-addr-preserved
 loop-addr-preserved c =
     let top : c.top_of-addr-end.result ≡ top_at c.args.words.now (1024 * c.args.page) =
     c.top_of-addr-end.ensures ∙ top_is c.args.words.now (1024 * c.args.page) _ c.requires.there in
-    let end : top_at c.args.words.now (1024 * c.args.page) ≤ 1024 * c.args.page + 1024 = c.requires.heap.within c.args.page c.requires.there in
+    let end : top_at c.args.words.now (1024 * c.args.page) ≤ 1024 * c.args.page + 1024 =
+    c.requires.heap.within c.args.page c.requires.there in
     record {
       behind = omega (arith, c.loop-addr.invariant.behind);
       within = omega (arith, top, end, c.loop-addr-test.true);

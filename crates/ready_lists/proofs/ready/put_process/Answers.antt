@@ -22,7 +22,8 @@ bounds-words-addr-2 c =
 
 pub returns-in-Ok : goal.returns-in-Ok
 returns-in-Ok c =
-    let here = at_from_place c.args.words.now c.args.addr _ (Status Ready) c.requires.inside (c.is_ready.ensures.0 c.if-not-is_ready.false) in
+    let here = at_from_place c.args.words.now c.args.addr _ (Status Ready) c.requires.inside
+    (c.is_ready.ensures.0 c.if-not-is_ready.false) in
     rw c.in-Ok.ensures.items
     (one_more c.args.words.now c.args.addr c.args.found.now.items _ refl (record {
       status = here;
