@@ -23,9 +23,6 @@ use heap_words::Words;
 use machine_code::Code;
 use page_layout::{first_open, put_commit};
 
-/// So many pieces a commit may have: their words have addresses of 32 bits.
-const MOST: usize = 268_435_454;
-
 impl Planner {
     /// Finds whom a commit wakes, and lays its pieces; answers its cells, or `None` where a piece finds no room.
     fn lay_commit<W: Words>(
@@ -85,9 +82,6 @@ impl Planner {
     {
         let own = self.machine.desk.pieces.words();
         let sizes = self.machine.desk.pieces.sizes();
-        if sizes.len() > MOST {
-            return Err(NoMemory);
-        }
         put_commit(
             &mut self.writes,
             self.rooms.as_slice(),
