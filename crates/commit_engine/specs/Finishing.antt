@@ -35,7 +35,8 @@ AnswerSays page_count due purse spare takes silent found added e pages old new a
     × (alone → is_made m ≡ true)
 
 -- what is left after a turn, by its answer
-pub record IsLeft {S : Type 0} (page_count : S → ℕ) (purse : S → Quota) (spare : S → ℕ) (alone : S → Type 0) (old new : S) (r : Turn) : Type 0 where
+pub record IsLeft {S : Type 0} (page_count : S → ℕ) (purse : S → Quota) (spare : S → ℕ) (alone : S → Type 0) (old new : S)
+    (r : Turn) : Type 0 where
   pub one : alone old → IsAlone r ≡ true
   pub same_purse : has_made r ≡ false → purse new ≡ purse old
   pub same_pages : page_count new ≡ page_count old

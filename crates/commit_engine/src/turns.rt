@@ -118,7 +118,8 @@ fn go_on<H: Hall>(hall: &mut H, planner: &mut Planner, code: &Code, process: u32
     }
 }
 
-/// A turn of the process at an address: the move that is decided for it is made, where the quota covers it and no other worker is in the way.
+/// A turn of the process at an address: the move that is decided for it is made, where the quota covers it and no other worker is in the
+/// way.
 /// Its pages are taken in ascending order, and what it read is looked at again while they are held. The planner then tells what the
 /// move did.
 ///

@@ -30,19 +30,22 @@ returns-in-Full-clause-free g c = λ q.
 
 pub finish-requires-clause-had : goal.finish-requires-clause-had
 finish-requires-clause-had g c =
-    let plan = (subst (λ (d : Planned). PlanSays c.args.code.now c.plan.new.self c.args.process d) c.in-Commits.is c.in-Ok.ensures.says).0 in
-    read_had g.met.H.Words.laws g.met.H.Hall.hall_laws c.args.hall.now c.plan.new.words c.plan.new.self c.args.process c.in-Ok.ensures.loaded
-    plan.safe
+    let says = subst (λ (d : Planned). PlanSays c.args.code.now c.plan.new.self c.args.process d) c.in-Commits.is c.in-Ok.ensures.says in
+    let plan = says.0 in
+    read_had g.met.H.Words.laws g.met.H.Hall.hall_laws c.args.hall.now c.plan.new.words c.plan.new.self c.args.process
+    c.in-Ok.ensures.loaded plan.safe
 
 pub finish-requires-clause-same : goal.finish-requires-clause-same
 finish-requires-clause-same g c =
-    let plan = (subst (λ (d : Planned). PlanSays c.args.code.now c.plan.new.self c.args.process d) c.in-Commits.is c.in-Ok.ensures.says).0 in
+    let says = subst (λ (d : Planned). PlanSays c.args.code.now c.plan.new.self c.args.process d) c.in-Commits.is c.in-Ok.ensures.says in
+    let plan = says.0 in
     read_same g.met.H.Words.laws g.met.H.Hall.hall_laws c.args.hall.now c.plan.new.words c.plan.new.self c.args.process c.requires.sound
     c.in-Ok.ensures.loaded plan.safe
 
 pub returns-in-Commits-clause-says : goal.returns-in-Commits-clause-says
 returns-in-Commits-clause-says g c =
-    let plan = (subst (λ (d : Planned). PlanSays c.args.code.now c.plan.new.self c.args.process d) c.in-Commits.is c.in-Ok.ensures.says).0 in
+    let says = subst (λ (d : Planned). PlanSays c.args.code.now c.plan.new.self c.args.process d) c.in-Commits.is c.in-Ok.ensures.says in
+    let plan = says.0 in
     finish_turn g.met.H.Words.laws g.met.H.Hall.hall_laws c.args.code.now c.args.hall.now c.plan.new.words c.finish.new.hall
     c.plan.new.self c.finish.new.planner c.args.process c.requires.sound c.plan.ensures.between c.in-Ok.ensures.loaded plan
     c.finish.result c.finish.ensures.says
@@ -54,24 +57,27 @@ returns-in-Commits-clause-rest g c =
 
 pub finish-requires-in-Hangs-clause-had : goal.finish-requires-in-Hangs-clause-had
 finish-requires-in-Hangs-clause-had g c =
-    let plan = (subst (λ (d : Planned). PlanSays c.args.code.now c.plan.new.self c.args.process d) c.in-Hangs.is c.in-Ok.ensures.says).0 in
-    read_had g.met.H.Words.laws g.met.H.Hall.hall_laws c.args.hall.now c.plan.new.words c.plan.new.self c.args.process c.in-Ok.ensures.loaded
-    plan.safe
+    let says = subst (λ (d : Planned). PlanSays c.args.code.now c.plan.new.self c.args.process d) c.in-Hangs.is c.in-Ok.ensures.says in
+    let plan = says.0 in
+    read_had g.met.H.Words.laws g.met.H.Hall.hall_laws c.args.hall.now c.plan.new.words c.plan.new.self c.args.process
+    c.in-Ok.ensures.loaded plan.safe
 
 pub finish-requires-in-Hangs-clause-same : goal.finish-requires-in-Hangs-clause-same
 finish-requires-in-Hangs-clause-same g c =
-    let plan = (subst (λ (d : Planned). PlanSays c.args.code.now c.plan.new.self c.args.process d) c.in-Hangs.is c.in-Ok.ensures.says).0 in
+    let says = subst (λ (d : Planned). PlanSays c.args.code.now c.plan.new.self c.args.process d) c.in-Hangs.is c.in-Ok.ensures.says in
+    let plan = says.0 in
     read_same g.met.H.Words.laws g.met.H.Hall.hall_laws c.args.hall.now c.plan.new.words c.plan.new.self c.args.process c.requires.sound
     c.in-Ok.ensures.loaded plan.safe
 
 pub returns-in-Hangs-clause-says : goal.returns-in-Hangs-clause-says
 returns-in-Hangs-clause-says g c =
-    let plan = (subst (λ (d : Planned). PlanSays c.args.code.now c.plan.new.self c.args.process d) c.in-Hangs.is c.in-Ok.ensures.says).0 in
+    let says = subst (λ (d : Planned). PlanSays c.args.code.now c.plan.new.self c.args.process d) c.in-Hangs.is c.in-Ok.ensures.says in
+    let plan = says.0 in
     finish_turn g.met.H.Words.laws g.met.H.Hall.hall_laws c.args.code.now c.args.hall.now c.plan.new.words c.finish-in-Hangs.new.hall
     c.plan.new.self c.finish-in-Hangs.new.planner c.args.process c.requires.sound c.plan.ensures.between c.in-Ok.ensures.loaded plan
     c.finish-in-Hangs.result c.finish-in-Hangs.ensures.says
 
 pub returns-in-Hangs-clause-rest : goal.returns-in-Hangs-clause-rest
 returns-in-Hangs-clause-rest g c =
-    left_after g.met.H.Words.laws g.met.H.Hall.hall_laws c.args.hall.now c.plan.new.words c.finish-in-Hangs.new.hall c.finish-in-Hangs.result
-    c.requires.sound c.plan.ensures.between c.finish-in-Hangs.ensures.rest
+    left_after g.met.H.Words.laws g.met.H.Hall.hall_laws c.args.hall.now c.plan.new.words c.finish-in-Hangs.new.hall
+    c.finish-in-Hangs.result c.requires.sound c.plan.ensures.between c.finish-in-Hangs.ensures.rest
