@@ -1,5 +1,5 @@
 -- What the parser's matches ask for. Only private clauses cite these.
-use Rattle.std.specs.Prelude.{◌≡◌, ◌==◌, ◌&&◌, ◌||◌, ℕ, Bool, true, not, List, [], ◌∷◌, codes, Option, Some, None, option_and_then, option_map, Result, Ok, Err, if◌then◌else◌}
+use Rattle.std.specs.Prelude.{◌≡◌, ◌==◌, ◌&&◌, ◌||◌, ℕ, Bool, true, not, List, [], ◌∷◌, codes, Option, Some, None, is_some, option_and_then, option_map, Result, Ok, Err, if◌then◌else◌}
 use Rattle.std.specs.Str.{bytes_eq}
 use Rattle.fcp_model.specs.declared.run.Limits.{Limits}
 use Rattle.fcp_model.specs.Spelling.{Bytes}
@@ -80,8 +80,8 @@ order_by command rows =
 abbrev pub order_in : Option (Bytes × List Row) → Option Order
 order_in = option_and_then (λ p. order_by p.0 p.1)
 
--- what is answered where this is wanted, or nothing can be
+-- what is answered where this is asked for, or nothing is: memory can run out where there is an order to be kept
 abbrev pub Answers : Option Order → Result Order WordFault → Type 0
 Answers o (Ok x) = o ≡ Some x
 Answers o (Err Usage) = o ≡ None
-Answers o (Err NoMemory) = Unit {0}
+Answers o (Err NoMemory) = is_some o ≡ true
