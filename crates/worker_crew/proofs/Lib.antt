@@ -1,4 +1,0 @@
-pub mod EngineMeasure
-pub mod MadeTurns
-pub mod Reporting
-pub mod UnmadeTurns
