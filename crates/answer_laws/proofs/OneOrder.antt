@@ -1,5 +1,5 @@
 -- An order is answered in one way over the bytes of its file.
-use Rattle.std.proofs.Common.{◌≡◌, true, false, [], ap, sym, ◌∙◌, subst}
+use Rattle.std.proofs.Common.{◌≡◌, [], ap, sym, ◌∙◌, subst}
 use Rattle.command_words.specs.declared.order.Order.{Order}
 use Rattle.command_words.specs.declared.order.Order.TheVariants.{Run, Show}
 use Rattle.fcp_laws.proofs.OneReport.{one_report}
@@ -13,9 +13,9 @@ use Rattle.fcp_model.specs.Translation.{program_of, start_of}
 use Rattle.fcp_text.specs.SourceClauses.{module_text}
 use Rattle.logix_app.specs.declared.status.Status.{Status}
 use Rattle.logix_app.specs.declared.status.Status.TheVariants as status
-use Rattle.logix_app.specs.Answers.{IsRunOf, IsNotInForm, IsShownAs, AnswersOrder}
+use Rattle.logix_app.specs.Answers.{IsRunOf, IsShownAs, AnswersOrder}
 use Rattle.logix_app.specs.Lines.{module_line, goal_line}
-use Rattle.logix_app.specs.Loading.{IsFirstFault, IsFirstGoalFault, is_runnable}
+use Rattle.logix_app.specs.Loading.{IsFirstFault, IsFirstGoalFault}
 use Rattle.logix_app.proofs.KindsOfAnswers.{RunAnswer, ShowAnswer, run-answer, show-answer}
 use Rattle.logix_app.proofs.KindsOfAnswers as kinds
 use Rattle.logix_app.proofs.OneLoading.{Texts, one-loaded, no-fault, one-first-fault, one-texts, no-first-goal-fault, one-first-goal-fault}
@@ -63,13 +63,6 @@ module _ (file : Bytes) (s s' : Status) (text text' : Bytes) where
         (subst (λ t. IsReportOver limits t o text) same r.by_one_worker) r'.by_one_worker in
         (e ∙ ap status.Ended one.0 ∙ sym e', one.1)
 
-    -- what is run is of what runs so far
-    ran-beyond : (o : Outcome) (x : Bytes) → IsRunOf limits file goal o x → IsNotInForm file goal → ⊥
-    ran-beyond o x r n =
-        let same = one-texts file goal r.m n.m r.g n.g r.names n.names r.loaded n.loaded in
-        let both : true ≡ false = sym r.runnable ∙ ap (λ (t : Texts). is_runnable t.m t.g) same ∙ n.beyond in
-        cc
-
     ran-goal-fault : (o : Outcome) (x : Bytes) (f : Fault) → IsRunOf limits file goal o x → IsFirstGoalFault file goal f → ⊥
     ran-goal-fault o x f r i = no-first-goal-fault file goal r.m r.g r.names f r.loaded i
 
@@ -79,29 +72,16 @@ module _ (file : Bytes) (s s' : Status) (text text' : Bytes) where
     module-and-goal-fault : (f g : Fault) → IsFirstFault file f → IsFirstGoalFault file goal g → ⊥
     module-and-goal-fault f g i j = no-fault file j.m j.before f j.loaded i
 
-    beyond-module-fault : (f : Fault) → IsNotInForm file goal → IsFirstFault file f → ⊥
-    beyond-module-fault f n i = no-fault file n.m n.loaded.before f n.loaded.loaded i
-
-    beyond-goal-fault : (f : Fault) → IsNotInForm file goal → IsFirstGoalFault file goal f → ⊥
-    beyond-goal-fault f n i = no-first-goal-fault file goal n.m n.g n.names f n.loaded i
-
     one-run : RunAnswer limits file goal s text → RunAnswer limits file goal s' text' → Same s s' text text'
     one-run (kinds.ran o e r) (kinds.ran p e' r') = same-runs o p e e' r r'
     one-run (kinds.ran o e r) (kinds.module_fault f e' l i) = absurd (ran-module-fault o text f r i)
     one-run (kinds.ran o e r) (kinds.goal_fault f e' l i) = absurd (ran-goal-fault o text f r i)
-    one-run (kinds.ran o e r) (kinds.beyond e' l n) = absurd (ran-beyond o text r n)
     one-run (kinds.module_fault f e l i) (kinds.ran o e' r) = absurd (ran-module-fault o text' f r i)
     one-run (kinds.module_fault f e l i) (kinds.module_fault g e' l' j) = same-module-faults f g e e' l l' i j
     one-run (kinds.module_fault f e l i) (kinds.goal_fault g e' l' j) = absurd (module-and-goal-fault f g i j)
-    one-run (kinds.module_fault f e l i) (kinds.beyond e' l' n) = absurd (beyond-module-fault f n i)
     one-run (kinds.goal_fault f e l i) (kinds.ran o e' r) = absurd (ran-goal-fault o text' f r i)
     one-run (kinds.goal_fault f e l i) (kinds.module_fault g e' l' j) = absurd (module-and-goal-fault g f j i)
     one-run (kinds.goal_fault f e l i) (kinds.goal_fault g e' l' j) = same-goal-faults f g e e' l l' i j
-    one-run (kinds.goal_fault f e l i) (kinds.beyond e' l' n) = absurd (beyond-goal-fault f n i)
-    one-run (kinds.beyond e l n) (kinds.ran o e' r) = absurd (ran-beyond o text' r n)
-    one-run (kinds.beyond e l n) (kinds.module_fault f e' l' i) = absurd (beyond-module-fault f n i)
-    one-run (kinds.beyond e l n) (kinds.goal_fault f e' l' i) = absurd (beyond-goal-fault f n i)
-    one-run (kinds.beyond e l n) (kinds.beyond e' l' n') = (e ∙ sym e', l ∙ sym l')
 
 pub one-answer : (o : Order) (file : Bytes) (s s' : Status) (text text' : Bytes) → (s ≡ status.NoMemory → ⊥) → (s' ≡ status.NoMemory → ⊥)
     → AnswersOrder o file s text → AnswersOrder o file s' text' → Same s s' text text'

@@ -48,12 +48,12 @@ fn answered(
     Ok(run_alone(alloc, words.as_slice(), &mut shelf, sink))
 }
 
-/// The report of `p(X)` has 66 bytes, and the line `logix: not in this form` has 24. Each text goes out by one put.
+/// The report of `p(X)` has 66 bytes, and that of `true` has 53. Each text goes out by one put.
 #[test]
 fn calls_that_fail_are_told(rt: HostRuntime) -> Result<(), Fail> {
     let report =
         b"logix log 1\n1 commit #0.1 1 _0.1=a\nend 1\noutcome terminated\nX = a\n".as_slice();
-    let form = b"logix: not in this form\n".as_slice();
+    let built_in = b"logix log 1\n1 commit #0.1 0\nend 1\noutcome terminated\n".as_slice();
     let shelf = b"logix: shelf fault\n".as_slice();
     let done = Status::Ended(Outcome::Terminated);
     let rows = [
@@ -61,8 +61,8 @@ fn calls_that_fail_are_told(rt: HostRuntime) -> Result<(), Fail> {
         ("run f p(X)", FIRST, NONE, 66, Status::Shelf, shelf),
         ("run f p(X)", NONE, FIRST, 66, Status::Sink, b""),
         ("run f p(X)", NONE, NONE, 65, Status::Sink, b""),
-        ("run f true", NONE, NONE, 24, Status::Form, form),
-        ("run f true", NONE, NONE, 23, Status::Sink, b""),
+        ("run f true", NONE, NONE, 53, done, built_in),
+        ("run f true", NONE, NONE, 52, Status::Sink, b""),
         ("run f true", FIRST, FIRST, 66, Status::Sink, b""),
         ("show f", NONE, SECOND, 6, Status::Shown, b"p(a).\n"),
         ("show f", NONE, FIRST, 6, Status::Sink, b""),

@@ -1,5 +1,5 @@
 -- What is answered to the words, what is written of that, and that what can be done is done.
-use Rattle.std.proofs.Common.{◌≡◌, ℕ, ◌<◌, ◌≤◌, true, false, List, [], length, Option, Some, Ok, Err, ap, sym, ◌∙◌, subst, arith}
+use Rattle.std.proofs.Common.{◌≡◌, ℕ, ◌<◌, ◌≤◌, List, [], length, Option, Some, Ok, Err, ap, sym, ◌∙◌, subst, arith}
 use Rattle.std.specs.Prelude.{Result, IfOk, IsSomeAnd}
 use Rattle.command_words.specs.declared.order.Order.{Order}
 use Rattle.command_words.specs.declared.order.Order.TheVariants.{Run, Show}
@@ -17,11 +17,10 @@ use Rattle.logix_app.specs.declared.status.Status.{Status}
 use Rattle.logix_app.specs.declared.status.Status.TheVariants as status
 use Rattle.logix_app.specs.Answers.{AnswersOrder, CanRun, CanShow, CanDo, IsDoneOrNoMemory}
 use Rattle.logix_app.specs.Headline.{Answers, WritesWhole, Writes, HasWork, IsFetched, IsAnswered, Completes}
-use Rattle.logix_app.specs.Loading.{is_runnable}
 use Rattle.logix_app.specs.Parts.{text_of}
 use Rattle.logix_app.proofs.KindsOfAnswers.{RunAnswer, ShowAnswer, CallAnswer, run-answer, show-answer, any-answer}
 use Rattle.logix_app.proofs.KindsOfAnswers as kinds
-use Rattle.logix_app.proofs.OneLoading.{Texts, no-fault, one-texts, no-first-goal-fault}
+use Rattle.logix_app.proofs.OneLoading.{no-fault, no-first-goal-fault}
 
 -- ---- what is answered
 
@@ -53,7 +52,6 @@ module _ (words : List Bytes) (held : Option Entries) (before now : ℕ) (last :
   as-answer status.Shown text a = a
   as-answer (status.Module f) text a = a
   as-answer (status.Goal f) text a = a
-  as-answer status.Form text a = a
   as-answer status.NoMemory text a = no-memory a.order a.file text a.answers
   as-answer status.Usage text a = absurd (not-usage a.order a.file text a.answers)
   as-answer status.Shelf text a = absurd (not-shelf a.order a.file text a.answers)
@@ -87,7 +85,6 @@ module _ (words : List Bytes) (held : Option Entries) (before now : ℕ) (last o
   whole-text status.Usage text a w = w
   whole-text (status.Module f) text a w = w
   whole-text (status.Goal f) text a w = w
-  whole-text status.Form text a w = w
   whole-text status.Shelf text a w = w
   whole-text status.TooLong text a w = w
   whole-text status.NoMemory text a w = w
@@ -107,10 +104,6 @@ run-is-done name goal file limits s text can (kinds.module_fault f e line first)
     absurd (no-fault file can.m can.loaded.before f can.loaded.loaded first)
 run-is-done name goal file limits s text can (kinds.goal_fault f e line first) =
     absurd (no-first-goal-fault file goal can.m can.g can.names f can.loaded first)
-run-is-done name goal file limits s text can (kinds.beyond e line n) =
-    let same = one-texts file goal can.m n.m can.g n.g can.names n.names can.loaded n.loaded in
-    let both : true ≡ false = sym can.runnable ∙ ap (λ (t : Texts). is_runnable t.m t.g) same ∙ n.beyond in
-    absurd cc
 
 show-is-done : (name file : Bytes) (s : Status) (text : Bytes) → CanShow file → ShowAnswer file s text → IsDoneOrNoMemory (Show name) s
 show-is-done name file s text can (kinds.shown e r) = subst (IsDoneOrNoMemory (Show name)) (sym e) tt
@@ -179,6 +172,5 @@ module _ (words : List Bytes) (held : Option Entries) (before now : ℕ) (last o
   completes status.Usage w o work p q = answered status.Usage (λ e. cc) o work p w
   completes (status.Module f) w o work p q = answered (status.Module f) (λ e. cc) o work p w
   completes (status.Goal f) w o work p q = answered (status.Goal f) (λ e. cc) o work p w
-  completes status.Form w o work p q = answered status.Form (λ e. cc) o work p w
   completes status.Shelf w o work p q = answered status.Shelf (λ e. cc) o work p w
   completes status.TooLong w o work p q = answered status.TooLong (λ e. cc) o work p w

@@ -7,9 +7,9 @@ use Rattle.fcp_model.specs.Spelling.{Bytes}
 use Rattle.logix_edge.specs.Shelves.{Entries}
 use Rattle.logix_app.specs.declared.status.Status.{Status}
 use Rattle.logix_app.specs.declared.status.Status.TheVariants as status
-use Rattle.logix_app.specs.Answers.{AnswersRun, AnswersShow, IsRunOf, IsNotInForm, IsShownAs}
+use Rattle.logix_app.specs.Answers.{AnswersRun, AnswersShow, IsRunOf, IsShownAs}
 use Rattle.logix_app.specs.Headline.{Answers, IsUsage, IsShelfFault, IsTooLong, IsAnswered}
-use Rattle.logix_app.specs.Lines.{form_line, module_line, goal_line}
+use Rattle.logix_app.specs.Lines.{module_line, goal_line}
 use Rattle.logix_app.specs.Loading.{IsFirstFault, IsFirstGoalFault}
 
 -- a goal that is to be run
@@ -17,7 +17,6 @@ pub data RunAnswer (limits : Limits) (file goal : Bytes) (s : Status) (text : By
   ran : (o : Outcome) → s ≡ status.Ended o → IsRunOf limits file goal o text → RunAnswer limits file goal s text
   module_fault : (f : Fault) → s ≡ status.Module f → text ≡ module_line f → IsFirstFault file f → RunAnswer limits file goal s text
   goal_fault : (f : Fault) → s ≡ status.Goal f → text ≡ goal_line f → IsFirstGoalFault file goal f → RunAnswer limits file goal s text
-  beyond : s ≡ status.Form → text ≡ form_line → IsNotInForm file goal → RunAnswer limits file goal s text
 
 pub run-answer : (limits : Limits) (file goal : Bytes) (s : Status) (text : Bytes) → AnswersRun limits file goal s text
     → (s ≡ status.NoMemory → ⊥)
@@ -25,7 +24,6 @@ pub run-answer : (limits : Limits) (file goal : Bytes) (s : Status) (text : Byte
 run-answer limits file goal (status.Ended o) text a enough = ran o refl a
 run-answer limits file goal (status.Module f) text a enough = module_fault f refl a.0 a.1
 run-answer limits file goal (status.Goal f) text a enough = goal_fault f refl a.0 a.1
-run-answer limits file goal status.Form text a enough = beyond refl a.0 a.1
 run-answer limits file goal status.NoMemory text a enough = absurd (enough refl)
 run-answer limits file goal status.Shown text a enough = absurd a
 run-answer limits file goal status.Usage text a enough = absurd a
@@ -44,7 +42,6 @@ show-answer file (status.Module f) text a enough = module_fault f refl a.0 a.1
 show-answer file status.NoMemory text a enough = absurd (enough refl)
 show-answer file (status.Ended o) text a enough = absurd a
 show-answer file (status.Goal f) text a enough = absurd a
-show-answer file status.Form text a enough = absurd a
 show-answer file status.Usage text a enough = absurd a
 show-answer file status.Shelf text a enough = absurd a
 show-answer file status.TooLong text a enough = absurd a
@@ -69,4 +66,3 @@ any-answer words held before now last (status.Ended o) text a enough = answered 
 any-answer words held before now last status.Shown text a enough = answered a
 any-answer words held before now last (status.Module f) text a enough = answered a
 any-answer words held before now last (status.Goal f) text a enough = answered a
-any-answer words held before now last status.Form text a enough = answered a

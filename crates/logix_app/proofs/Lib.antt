@@ -1,7 +1,6 @@
 pub mod Answering
-pub mod CalledItems
+pub mod AskedLimits
 pub mod KindsOfAnswers
 pub mod Loaded
 pub mod OneLoading
 pub mod Pieces
-pub mod Simple

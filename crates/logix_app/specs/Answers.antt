@@ -1,5 +1,5 @@
 -- What is answered to an order over the bytes of the file that it names: a status with the text that is printed.
-use Rattle.std.specs.Prelude.{◌≡◌, true, false, List, []}
+use Rattle.std.specs.Prelude.{◌≡◌, List, []}
 use Rattle.command_words.specs.declared.order.Order.{Order}
 use Rattle.command_words.specs.declared.order.Order.TheVariants.{Run, Show}
 use Rattle.fcp_model.specs.declared.run.Limits.{Limits}
@@ -14,8 +14,8 @@ use Rattle.fcp_text.specs.SourceClauses.{module_text}
 use Rattle.reading_laws.specs.CanonicalReading.{IsShallow, IsAlike}
 use Rattle.logix_app.specs.declared.status.Status.{Status}
 use Rattle.logix_app.specs.declared.status.Status.TheVariants as status
-use Rattle.logix_app.specs.Lines.{form_line, module_line, goal_line}
-use Rattle.logix_app.specs.Loading.{IsLoadedModule, IsFirstFault, AreLoaded, IsFirstGoalFault, is_runnable}
+use Rattle.logix_app.specs.Lines.{module_line, goal_line}
+use Rattle.logix_app.specs.Loading.{IsLoadedModule, IsFirstFault, AreLoaded, IsFirstGoalFault}
 
 -- The goal was run over the module: the text is the report of a run by the definitions, within the limits, of which one
 -- worker made each entry, and the run ended so.
@@ -24,17 +24,8 @@ pub record IsRunOf (limits : Limits) (file goal : Bytes) (o : Outcome) (text : B
   pub g : GoalText
   pub names : List Bytes
   pub loaded : AreLoaded file goal m g names
-  pub runnable : is_runnable m g ≡ true
   pub is_run : IsRunReport (program_of m) (start_of m g) limits [] names (goal_variables g.names) o text
   pub by_one_worker : IsOneWorkerReport (program_of m) (start_of m g) limits [] names (goal_variables g.names) o text
-
--- neither text has a fault, and they are not of what runs so far
-pub record IsNotInForm (file goal : Bytes) : Type 0 where
-  pub m : Module
-  pub g : GoalText
-  pub names : List Bytes
-  pub loaded : AreLoaded file goal m g names
-  pub beyond : is_runnable m g ≡ false
 
 -- The file is a module without a fault: the text is its canonical text. Where no bracket of that has 256 open ones around
 -- it, it is read as a module that says the same.
@@ -50,7 +41,6 @@ abbrev pub AnswersRun : Limits → Bytes → Bytes → Status → Bytes → Type
 AnswersRun limits file goal (status.Ended o) text = IsRunOf limits file goal o text
 AnswersRun limits file goal (status.Module f) text = (text ≡ module_line f) × IsFirstFault file f
 AnswersRun limits file goal (status.Goal f) text = (text ≡ goal_line f) × IsFirstGoalFault file goal f
-AnswersRun limits file goal status.Form text = (text ≡ form_line) × IsNotInForm file goal
 AnswersRun limits file goal status.NoMemory text = text ≡ []
 AnswersRun limits file goal _ text = ⊥
 
@@ -68,13 +58,12 @@ AnswersOrder (Show name) file s text = AnswersShow file s text
 
 -- ---- what has to be done
 
--- neither the file nor the goal has a fault, and both are of what runs so far
+-- neither the file nor the goal has a fault
 pub record CanRun (file goal : Bytes) : Type 0 where
   pub m : Module
   pub g : GoalText
   pub names : List Bytes
   pub loaded : AreLoaded file goal m g names
-  pub runnable : is_runnable m g ≡ true
 
 -- the file has no fault
 pub record CanShow (file : Bytes) : Type 0 where

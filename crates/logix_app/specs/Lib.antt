@@ -1,5 +1,4 @@
 pub mod Answers
-pub mod FirstForms
 pub mod Headline
 pub mod Lines
 pub mod Loading

@@ -8,10 +8,6 @@ use Rattle.fcp_model.specs.Spelling.{Bytes}
 abbrev pub usage_line : Bytes
 usage_line = codes "logix: usage\n"
 
--- the texts are beyond what runs so far
-abbrev pub form_line : Bytes
-form_line = codes "logix: not in this form\n"
-
 -- the file could not be fetched
 abbrev pub shelf_line : Bytes
 shelf_line = codes "logix: shelf fault\n"

@@ -1,14 +1,12 @@
 -- What the texts of a module and a goal are once they are loaded, and their first faults.
-use Rattle.std.specs.Prelude.{◌≡◌, Bool, ◌&&◌, List, [], Some}
+use Rattle.std.specs.Prelude.{◌≡◌, List, [], Some}
 use Rattle.fcp_model.specs.declared.fault.Fault.{Fault}
 use Rattle.fcp_model.specs.declared.source.Module.{Module}
 use Rattle.fcp_model.specs.declared.source.GoalText.{GoalText}
-use Rattle.plain_engine.specs.CalledItems.{bodies_called, goal_called}
 use Rattle.fcp_model.specs.NameList.{reserved_names}
 use Rattle.fcp_model.specs.Spelling.{Bytes}
 use Rattle.fcp_loader.specs.Faults.{faults_of, goal_faults_of}
 use Rattle.fcp_loader.specs.Firsts.{first_of}
-use Rattle.logix_app.specs.FirstForms.{is_simple_module, is_simple_goal}
 use Rattle.fcp_reader.specs.Sources.{IsModule, IsModuleFault, IsGoal, IsGoalFault, names_behind_module, names_behind_goal}
 
 -- The text is a module without a fault. `names` are the strings: the reserved names, then those of the text.
@@ -42,8 +40,3 @@ pub record IsFirstGoalFault (file goal : Bytes) (f : Fault) : Type 0 where
   pub before : List Bytes
   pub loaded : IsLoadedModule file m before
   pub first : IsFirstGoalFaultFor m before goal f
-
--- What runs so far: a module and a goal of strings and variables alone, without guards, whose items are calls of the
--- module's procedures.
-abbrev pub is_runnable : Module → GoalText → Bool
-is_runnable m g = is_simple_module m && bodies_called m && is_simple_goal g && goal_called m g

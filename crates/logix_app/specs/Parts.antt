@@ -1,7 +1,10 @@
 -- What the parts of a call do. Only private clauses cite these.
-use Rattle.std.specs.Prelude.{◌≡◌, ℕ, List, [], Result, Ok, Err}
+use Rattle.std.specs.Prelude.{◌≡◌, ℕ, ◌≤◌, List, [], length, Result, Ok, Err}
+use Rattle.command_words.specs.declared.order.Order.{Order}
+use Rattle.command_words.specs.declared.order.Order.TheVariants.{Run, Show}
 use Rattle.fcp_model.specs.declared.fault.Refused.{Refused}
 use Rattle.fcp_model.specs.declared.fault.Refused.TheVariants as refused
+use Rattle.fcp_model.specs.declared.run.Limits.{Limits}
 use Rattle.fcp_model.specs.declared.source.Module.{Module}
 use Rattle.fcp_model.specs.declared.source.GoalText.{GoalText}
 use Rattle.fcp_model.specs.Spelling.{Bytes}
@@ -20,6 +23,23 @@ abbrev pub text_of : Output → Bytes
 text_of (output.Line line) = line.now
 text_of (output.Text text) = text.items
 text_of (output.Module names loaded) = module_text names loaded
+
+-- limits that words may ask for
+pub record MayBeAsked (limits : Limits) : Type 0 where
+  pub commits : limits.commits ≤ 1000000
+  pub moves : limits.moves ≤ 1000000
+  pub cells : limits.cells ≤ 64000000
+
+-- the limits of an order may be asked for
+abbrev pub AsksWithin : Order → Type 0
+AsksWithin (Run name goal limits) = MayBeAsked limits
+AsksWithin (Show name) = Unit {0}
+
+-- the module was loaded from some text of at most 1,048,576 bytes, with its strings after it
+pub record IsOfSomeText (m : Module) (names : List Bytes) : Type 0 where
+  pub file : Bytes
+  pub short : length file ≤ 1048576
+  pub loaded : IsLoadedModule file m names
 
 -- a module that was loaded from a text, with its strings after it, or why none was
 abbrev pub LoadsText : Bytes → List Bytes → Result Module Refused → Type 0

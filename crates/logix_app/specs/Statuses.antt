@@ -3,7 +3,7 @@ use Rattle.std.specs.Prelude.{ℕ}
 use Rattle.fcp_model.specs.declared.run.Outcome.{Outcome}
 use Rattle.fcp_model.specs.declared.run.Outcome.TheVariants as outcome
 use Rattle.logix_app.specs.declared.status.Status.{Status}
-use Rattle.logix_app.specs.declared.status.Status.TheVariants.{Ended, Shown, Usage, Module, Goal, Form, Shelf, TooLong, Sink, NoMemory}
+use Rattle.logix_app.specs.declared.status.Status.TheVariants.{Ended, Shown, Usage, Module, Goal, Shelf, TooLong, Sink, NoMemory}
 
 -- of a run that ended
 abbrev pub outcome_number : Outcome → ℕ
@@ -26,4 +26,3 @@ status_number Shelf = 6
 status_number TooLong = 7
 status_number Sink = 13
 status_number NoMemory = 14
-status_number Form = 20

@@ -4,7 +4,7 @@ ghost use Rattle.std.specs.String.{string_bytes};
 ghost use Rattle.logix_app.specs.Answers.{AnswersOrder};
 ghost use Rattle.logix_app.specs.Headline.{Answers};
 ghost use Rattle.command_words.specs.Readings.{has_words, IsReading};
-ghost use Rattle.logix_app.specs.Parts.{text_of};
+ghost use Rattle.logix_app.specs.Parts.{text_of, AsksWithin};
 
 use crate::Status;
 use crate::answer::Answer;
@@ -37,6 +37,7 @@ pub fn answer_of<S: Shelf>(
 /// The answer to an order.
 fn answer_order<S: Shelf>(alloc: Global, order: &Order, shelf: &mut S) -> Result<Answer, NoMemory>
     requires words { IsTrue (has_words order.now) }
+    requires asked { AsksWithin order.now }
     ensures same { S.held shelf.new ≡ S.held shelf.old }
     ensures answer { (words : List (List ℕ)) → IsReading words order.now → IfOk result (λ a.
         Answers words (S.held shelf.old) (S.faults shelf.old) (S.faults shelf.new) (S.last_failed shelf.new) a.status (text_of a.output)) }
@@ -53,6 +54,7 @@ fn answer_order<S: Shelf>(alloc: Global, order: &Order, shelf: &mut S) -> Result
 fn answer_over(alloc: Global, order: &Order, file: &[u8]) -> Result<Answer, NoMemory>
     requires few { length file.now ≤ 1048576 }
     requires words { IsTrue (has_words order.now) }
+    requires asked { AsksWithin order.now }
     ensures { IfOk result (λ a. AnswersOrder order.now file.now a.status (text_of a.output)) }
 {
     match order {

@@ -6,9 +6,7 @@ ghost use Rattle.std.specs.String.{string_bytes};
 ghost use Rattle.logix_app.specs.Headline.{Answers, Writes, Completes};
 
 mod answer;
-mod called;
 mod fetching;
-mod first_form;
 mod lines;
 mod loading;
 mod status;

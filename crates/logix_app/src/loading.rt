@@ -1,29 +1,26 @@
 //! The answers to the texts of a module and a goal.
-ghost use Rattle.std.specs.Prelude.{◌≡◌, ◌≤◌, true, length, IfOk};
+ghost use Rattle.std.specs.Prelude.{◌≡◌, ◌≤◌, length, IfOk};
 ghost use Rattle.fcp_model.specs.NameList.{reserved_names};
 ghost use Rattle.fcp_model.specs.Spelling.{Bytes};
-ghost use Rattle.fcp_reader.specs.Limits.{is_module_within, is_goal_within};
+ghost use Rattle.goal_layout.specs.Goals.{MayBeLaid};
 ghost use Rattle.logix_app.specs.Answers.{AnswersRun, AnswersShow};
-ghost use Rattle.logix_app.specs.Loading.{IsLoadedModule, AreLoaded, is_runnable};
-ghost use Rattle.logix_app.specs.Parts.{text_of, LoadsText, LoadsGoalText};
+ghost use Rattle.logix_app.specs.Loading.{IsLoadedModule, AreLoaded};
+ghost use Rattle.logix_app.specs.Parts.{text_of, IsOfSomeText, LoadsText, LoadsGoalText, MayBeAsked};
 
 use crate::Status;
 use crate::answer::{Answer, Output};
-use crate::called::{are_bodies_called, are_called};
-use crate::first_form::{is_simple_goal, is_simple_module};
 use crate::lines::{goal_refusal, module_refusal};
 use fcp_loader::{load, load_goal};
-use fcp_model::{GoalText, Limits, Loaded, LoadedGoal, Names, NoMemory, Refused};
+use fcp_model::{Limits, Loaded, LoadedGoal, Names, NoMemory, Refused};
 use fcp_reader::{read_goal, read_module};
-use plain_engine::{Report, run_goal};
 use std::alloc::Global;
+use worker_crew::{Report, run_goal};
 
 /// The module of a text, or its first fault. The strings before are the reserved ones.
 fn load_text(alloc: Global, file: &[u8], names: &mut Names) -> Result<Loaded, Refused>
     requires few { length file.now ≤ 1048576 }
     requires fresh { names.old ≡ reserved_names }
     ensures loads { LoadsText file.now names.new result }
-    ensures within { IfOk result (λ m. (is_module_within m ≡ true) × (length m.clauses ≤ 1048576)) }
 {
     match read_module(alloc, file, names) {
         Ok(module) => load(alloc, module),
@@ -31,59 +28,46 @@ fn load_text(alloc: Global, file: &[u8], names: &mut Names) -> Result<Loaded, Re
     }
 }
 
-/// The goal of a text for a module, or its first fault.
+/// The goal of a text for a module that was loaded from some text, or its first fault.
 fn load_goal_text(
     alloc: Global,
     loaded: &Loaded,
     goal: &[u8],
     names: &mut Names,
 ) -> Result<LoadedGoal, Refused>
-    requires { length goal.now ≤ 1048576 }
+    requires short { length goal.now ≤ 1048576 }
+    requires of_text { IsOfSomeText loaded.now names.old }
     ensures loads { LoadsGoalText loaded.now names.old goal.now names.new result }
-    ensures within { IfOk result (λ g. is_goal_within g.0 ≡ true) }
+    ensures laid { IfOk result (MayBeLaid loaded.now) }
 {
+    layable_goals::goals_of_texts_may_be_laid();
     match read_goal(alloc, goal, names) {
         Ok(goal) => load_goal(alloc, loaded, goal),
         Err(refused) => Err(refused),
     }
 }
 
-/// Whether what was loaded is of what runs so far.
-fn is_runnable(loaded: &Loaded, goal: &GoalText) -> bool
-    ensures { result ≡ is_runnable loaded.now goal.now }
-{
-    is_simple_module(loaded)
-        && are_bodies_called(loaded)
-        && is_simple_goal(goal)
-        && are_called(loaded, goal.items.as_slice())
-}
-
-/// The answer to a goal for a module, which keep the limits of arguments, parts, variables and items.
+/// The answer to a goal that was loaded for a module, and that may be laid.
 fn answer_loaded(
     alloc: Global,
     names: &Names,
     loaded: &Loaded,
-    goal: &GoalText,
+    goal: &LoadedGoal,
     limits: Limits,
 ) -> Result<Answer, NoMemory>
-    requires within { is_module_within loaded.now ≡ true }
-    requires few { length loaded.now.clauses ≤ 1048576 }
-    requires goal_within { is_goal_within goal.now ≡ true }
-    ensures { (file text : Bytes) → AreLoaded file text loaded.now goal.now names.now
+    requires laid { MayBeLaid loaded.now goal.now }
+    requires asked { MayBeAsked limits }
+    ensures { (file text : Bytes) → AreLoaded file text loaded.now goal.now.0 names.now
         → IfOk result (λ a. AnswersRun limits file text a.status (text_of a.output)) }
 {
-    if is_runnable(loaded, goal) {
-        let Report { outcome, text } = run_goal(alloc, names, loaded, goal, limits)?;
-        Ok(Answer {
-            status: Status::Ended(outcome),
-            output: Output::Text(text),
-        })
-    } else {
-        Ok(Answer::line(Status::Form, b"logix: not in this form\n"))
-    }
+    let Report { outcome, text } = run_goal(alloc, names, loaded, goal, limits)?;
+    Ok(Answer {
+        status: Status::Ended(outcome),
+        output: Output::Text(text),
+    })
 }
 
-/// The answer to the text of a goal for a module that keeps these limits, and that was loaded from some file.
+/// The answer to the text of a goal for a module that was loaded from some text.
 fn answer_goal(
     alloc: Global,
     names: Names,
@@ -92,14 +76,14 @@ fn answer_goal(
     limits: Limits,
 ) -> Result<Answer, NoMemory>
     requires short { length goal.now ≤ 1048576 }
-    requires within { is_module_within loaded.now ≡ true }
-    requires few { length loaded.now.clauses ≤ 1048576 }
+    requires of_text { IsOfSomeText loaded.now names }
+    requires asked { MayBeAsked limits }
     ensures { (file : Bytes) → IsLoadedModule file loaded.now names
         → IfOk result (λ a. AnswersRun limits file goal.now a.status (text_of a.output)) }
 {
     let mut names = names;
     match load_goal_text(alloc, loaded, goal, &mut names) {
-        Ok(goal) => answer_loaded(alloc, &names, loaded, goal.goal(), limits),
+        Ok(goal) => answer_loaded(alloc, &names, loaded, &goal, limits),
         Err(refused) => goal_refusal(alloc, refused),
     }
 }
@@ -113,6 +97,7 @@ pub fn answer_run(
 ) -> Result<Answer, NoMemory>
     requires file { length file.now ≤ 1048576 }
     requires goal { length goal.now ≤ 1048576 }
+    requires asked { MayBeAsked limits }
     ensures { IfOk result (λ a. AnswersRun limits file.now goal.now a.status (text_of a.output)) }
 {
     let mut names = Names::for_text(alloc, file)?;

@@ -16,8 +16,6 @@ pub enum Status {
     Module(Fault),
     /// The module has none, and the goal has a fault, this one first.
     Goal(Fault),
-    /// Neither has a fault, and they are not of what runs so far.
-    Form,
     /// The shelf counted a fault.
     Shelf,
     /// The file has more bytes than the limit.
@@ -43,7 +41,6 @@ impl Status {
             Status::TooLong => 7,
             Status::Sink => 13,
             Status::NoMemory => 14,
-            Status::Form => 20,
         }
     }
 }

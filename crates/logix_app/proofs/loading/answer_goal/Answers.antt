@@ -1,13 +1,10 @@
-use Rattle.std.proofs.Common.{sym, subst}
-use Rattle.logix_app.specs.Loading.{AreLoaded}
 use Rattle.logix_app.proofs.Loaded.{both-loaded, refused-goal}
 use Rattle.logix_app.proofs.loading.answer_goal.Goals as goal
 
 pub returns-in-Ok : goal.returns-in-Ok
 returns-in-Ok c file l =
     c.answer_loaded.ensures file c.args.goal.now
-    (subst (λ g. AreLoaded file c.args.goal.now c.args.loaded.now g c.load_goal_text.new.names) (sym c.goal-in-Ok.ensures)
-    (both-loaded file c.args.goal.now c.args.loaded.now c.args.names _ c.load_goal_text.new.names l c.in-Ok.ensures.loads))
+    (both-loaded file c.args.goal.now c.args.loaded.now c.args.names _ c.load_goal_text.new.names l c.in-Ok.ensures.loads)
 
 pub returns : goal.returns
 returns c file l =

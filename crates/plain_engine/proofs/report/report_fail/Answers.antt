@@ -1,5 +1,0 @@
-use Rattle.plain_engine.proofs.Reporting.{report_failed}
-use Rattle.plain_engine.proofs.report.report_fail.Goals as goal
-
-pub returns : goal.returns
-returns c = report_failed c.args.task.now c.args.engine c.requires.failed c.close.result c.close.ensures.outcome c.close.ensures.text
