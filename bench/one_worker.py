@@ -5,17 +5,26 @@
 
 Each case is run at two sizes, N rounds each (3 where N is left out), with the report going to /dev/null. The fastest
 round counts, and the largest peak. Time is that of the whole call, from its start to its end. `fixed` is a call of one
-commit. Its peak is the least that can be measured here: the system counts what this script had in memory when it
-started the program, so a peak near that of `fixed` says only that the program needs no more.
+commit, with the same store as all others. Its peak is the least that can be measured here: the system counts what this
+script had in memory when it started the program, so a peak near that of `fixed` says only that the program needs no more.
+The second table compares the two sizes; its seconds per entry are those beyond the call of `fixed`.
 """
 import os
 import sys
 import tempfile
 
-from calls import chosen, rounds_of
+from calls import ROOT, chosen, rounds_of
+
+GROW = os.path.join(ROOT, "examples", "grow.fcp")
 
 # the exit statuses of runs that terminated, and that met the limit of commits
 TERMINATED, BUDGET = 0, 9
+
+
+def grow(n):
+    """Two generators of the numbers up to n, their merge and its sum: 10n + 7 commits, and no hang."""
+    with open(GROW, encoding="ascii") as file:
+        return file.read(), f"main({n}, Sum)", TERMINATED, 10 * n + 7
 
 
 def chain(n):
@@ -60,6 +69,7 @@ def carried(n):
 
 CASES = [
     ("fixed", chain, (1,)),
+    ("grow", grow, (1_000, 9_000)),
     ("loop", one_procedure, (1_000_000,)),
     ("chain", chain, (20_000, 40_000)),
     ("tree", tree, (17, 18)),
@@ -99,23 +109,29 @@ def main():
     given = chosen("Measures runs of one worker.")
     print("| case | size | file, bytes | entries | seconds | entries per second | peak, KiB | peak bytes per entry |")
     print("|---|---:|---:|---:|---:|---:|---:|---:|")
-    pairs = []
+    measured = {}
     with tempfile.TemporaryDirectory() as folder:
         for name, make, sizes in CASES:
-            rows = []
             for size in sizes:
                 length, entries, seconds, peak = measure(given.program, folder, given.rounds, name, make, size)
-                rows.append((entries, seconds, peak))
+                measured.setdefault(name, []).append((entries, seconds, peak))
                 print(f"| {name} | {size:,} | {length:,} | {entries:,} | {seconds:.3f} | {entries / seconds:,.0f} | "
                       f"{peak:,} | {peak * 1024 / entries:,.0f} |", flush=True)
-            if len(rows) == 2:
-                pairs.append((name, *rows))
+    _, start, _ = measured["fixed"][0]
     print()
-    print("| case | ratio of entries | ratio of seconds | ratio of peaks | bytes per further entry |")
-    print("|---|---:|---:|---:|---:|")
-    for name, (fewer, quick, low), (more, slow, high) in pairs:
-        further = (high - low) * 1024 / (more - fewer)
-        print(f"| {name} | {more / fewer:.2f} | {slow / quick:.2f} | {high / low:.2f} | {further:,.0f} |")
+    print("| case | ratio of entries | ratio of seconds | ratio of seconds per entry | ratio of peaks | bytes per further entry |")
+    print("|---|---:|---:|---:|---:|---:|")
+    for name, rows in measured.items():
+        if len(rows) == 2:
+            print(compared(name, start, *rows))
+
+
+def compared(name, start, smaller, larger):
+    """The line of a case in the second table, where a call of one commit takes `start` seconds."""
+    (fewer, quick, low), (more, slow, high) = smaller, larger
+    each = (slow - start) / more / ((quick - start) / fewer)
+    further = (high - low) * 1024 / (more - fewer)
+    return f"| {name} | {more / fewer:.2f} | {slow / quick:.2f} | {each:.2f} | {high / low:.2f} | {further:,.0f} |"
 
 
 if __name__ == "__main__":
