@@ -1,46 +1,51 @@
 -- Which places that are written are new.
-use Rattle.std.proofs.Common.{◌≡◌, ◌⊎◌, ℕ, ◌+◌, ◌*◌, ◌/◌, ◌<◌, ◌≤◌, Bool, true, false, cond, List, [], ◌∷◌, ◌++◌}
-use Rattle.std.proofs.Common.{length, drop, get_or, Option, Some}
-use Rattle.std.proofs.Common.{refl, sym, ap, subst, ⊎_elim, inl, inr}
-use Rattle.std.specs.Prelude.{◌&&◌, not, nat_eq, nat_le}
+use Rattle.std.proofs.Common.{◌≡◌, ◌⊎◌, ℕ, ◌+◌, ◌*◌, ◌/◌, ◌<◌, ◌≤◌, true, false, List, [], ◌∷◌, ◌++◌, true≢false}
+use Rattle.std.proofs.Common.{length, drop, get_or, Option, Some, None, refl, sym, ap, ◌∙◌, subst, ⊎_elim, inl, inr}
+use Rattle.std.specs.Prelude.{◌↔◌, not}
 use Rattle.std.proofs.lemmas.List.{at_drop_more, at_drop_all}
-use Rattle.std.proofs.lemmas.Bool.{leb-true, eqb-true, and_parts, not-true}
+use Rattle.std.proofs.lemmas.Bool.{leb-true, le-leb, not-true}
+use Rattle.std.proofs.lemmas.Option.{same_Some}
 use Rattle.heap_words.specs.Cells.{decoded, is_final_word}
-use Rattle.heap_words.specs.Trails.{WordList}
+use Rattle.heap_words.specs.Trails.{WordList, word_at, AreOnce}
 use Rattle.heap_words.specs.declared.cell.Cell.{Cell}
 use Rattle.heap_words.specs.declared.cell.Cell.TheVariants.{Top}
 use Rattle.word_states.specs.Words.{Among, IsIn}
+use Rattle.word_states.proofs.Lists.{among_word, word_among}
+use Rattle.stored_tries.proofs.Lists.{once_word}
 use Rattle.page_layout.specs.declared.written.Written.{Written}
 use Rattle.page_layout.specs.Writing.{written}
-use Rattle.commit_engine.specs.declared.placing.Place.TheVariants as place
 use Rattle.commit_engine.specs.Holding.{IsOpen, IsNew, ArePlaced}
-use Rattle.commit_engine.specs.Making.{top_place, place_said, PlaceSays, PutsPlace}
+use Rattle.commit_engine.specs.Making.{is_above_top, PutsPlace}
 
-top_place_is : (reads : WordList) (a x : ℕ) (o : Option Cell) → decoded x ≡ o → Among reads (1024 * (a / 1024), x)
-    → PlaceSays reads a (top_place o a)
-top_place_is reads a x (Some (Top t)) e h = go (nat_le t a) refl
-  where
-    go : (b : Bool) → nat_le t a ≡ b → PlaceSays reads a (cond b place.New place.Nowhere)
-    go true f = (x, t, h, e, leb-true t a f)
-    go false f = tt
-top_place_is reads a x _ e h = tt
+none_among : (reads : WordList) (a x : ℕ) → word_at reads a ≡ None → Among reads (a, x) → ⊥
+none_among reads a x e h = let r = among_word reads a x h in let k : None ≡ Some r.0 = sym e ∙ r.1 in cc
 
--- what one word says that was read
-pub place_one : (reads : WordList) (r : ℕ × ℕ) (a : ℕ) → Among reads r → PlaceSays reads a (place_said r a)
-place_one reads r a h = go (nat_eq r.0 a && not (is_final_word r.1)) refl
-  where
-    above : (b : Bool) → nat_eq r.0 (1024 * (a / 1024)) ≡ b → PlaceSays reads a (cond b (top_place (decoded r.1) a) place.Nowhere)
-    above true e =
-        top_place_is reads a r.1 (decoded r.1) refl
-        (subst (λ (b : ℕ). Among reads (b, r.1)) (eqb-true r.0 (1024 * (a / 1024)) e) h)
-    above false e = tt
+-- the word that is kept for an address tells whether it is open
+pub open_word : (reads : WordList) (a x : ℕ) → AreOnce reads → word_at reads a ≡ Some x → (not (is_final_word x) ≡ true) ↔ IsOpen reads a
+open_word reads a x once e = (
+  λ f. (x, word_among reads a x e, not-true (is_final_word x) f),
+  λ o. let h : o.0 ≡ x = same_Some o.0 x (sym (once_word reads once a o.0 o.1) ∙ e) in
+      ap not (subst (λ (y : ℕ). is_final_word y ≡ false) h o.2),
+)
 
-    go : (b : Bool) → (nat_eq r.0 a && not (is_final_word r.1)) ≡ b
-        → PlaceSays reads a (cond b place.Read (cond (nat_eq r.0 (1024 * (a / 1024))) (top_place (decoded r.1) a) place.Nowhere))
-    go true e =
-        let both = and_parts (nat_eq r.0 a) (not (is_final_word r.1)) e in
-        (r.1, subst (λ (b : ℕ). Among reads (b, r.1)) (eqb-true r.0 a both.0) h, not-true (is_final_word r.1) both.1)
-    go false e = above (nat_eq r.0 (1024 * (a / 1024))) refl
+pub no_open : (reads : WordList) (a : ℕ) → word_at reads a ≡ None → (false ≡ true) ↔ IsOpen reads a
+no_open reads a e = (λ f. absurd (true≢false (sym f)), λ o. absurd (none_among reads a o.0 e o.1))
+
+-- and the one kept for the top of its page whether it is new
+top_said : (o : Option Cell) (a : ℕ) → is_above_top o a ≡ true → (t : ℕ) × (o ≡ Some (Top t)) × (t ≤ a)
+top_said (Some (Top t)) a f = (t, refl, leb-true t a f)
+top_said _ a f = absurd (true≢false (sym f))
+
+pub new_word : (reads : WordList) (a x : ℕ) → AreOnce reads → word_at reads (1024 * (a / 1024)) ≡ Some x
+    → (is_above_top (decoded x) a ≡ true) ↔ IsNew reads a
+new_word reads a x once e = (
+  λ f. let s = top_said (decoded x) a f in (x, s.0, word_among reads (1024 * (a / 1024)) x e, s.1, s.2),
+  λ n. let h : n.0 ≡ x = same_Some n.0 x (sym (once_word reads once (1024 * (a / 1024)) n.0 n.2) ∙ e) in
+      ap (λ (o : Option Cell). is_above_top o a) (ap decoded (sym h) ∙ n.3) ∙ le-leb n.1 a n.4,
+)
+
+pub no_new : (reads : WordList) (a : ℕ) → word_at reads (1024 * (a / 1024)) ≡ None → (false ≡ true) ↔ IsNew reads a
+no_new reads a e = (λ f. absurd (true≢false (sym f)), λ n. absurd (none_among reads (1024 * (a / 1024)) n.0 e n.2))
 
 pub in_left : (p : ℕ) (xs ys : List ℕ) → IsIn p xs → IsIn p (xs ++ ys)
 in_left p [] ys h = absurd h

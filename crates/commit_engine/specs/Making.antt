@@ -1,11 +1,10 @@
 -- An entry that is made: what is known of it, and what its making says.
-use Rattle.std.specs.Prelude.{◌≡◌, ◌⊎◌, ℕ, ◌-◌, ◌*◌, ◌/◌, ◌<◌, ◌≤◌, Bool, true, false, List, Option, Some, None}
+use Rattle.std.specs.Prelude.{◌≡◌, ◌⊎◌, ℕ, ◌-◌, ◌*◌, ◌/◌, ◌<◌, ◌≤◌, Bool, true, false, nat_le, List, Option, Some, None}
 use Rattle.heap_words.specs.Cells.{decoded, is_final_word}
 use Rattle.heap_words.specs.Heaps.{IsHeap, inside_at}
 use Rattle.heap_words.specs.Trails.{WordList}
 use Rattle.heap_words.specs.declared.cell.Cell.{Cell}
 use Rattle.heap_words.specs.declared.cell.Cell.TheVariants.{Top}
-use Rattle.std.specs.Prelude.{◌&&◌, not, nat_eq, nat_le, if◌then◌else◌}
 use Rattle.word_states.specs.Words.{Among, HasAll, IsIn}
 use Rattle.word_states.specs.Writing.{MayWrite}
 use Rattle.sound_entries.specs.Sound.{IsSound}
@@ -14,27 +13,14 @@ use Rattle.word_moves.specs.declared.word_move.WordMove.{WordMove}
 use Rattle.commit_engine.specs.declared.change.Change.{Change}
 use Rattle.commit_engine.specs.declared.making.Making.{Making}
 use Rattle.commit_engine.specs.declared.making.Making.TheVariants as making
-use Rattle.commit_engine.specs.declared.placing.Place.{Place}
-use Rattle.commit_engine.specs.declared.placing.Place.TheVariants as place
 use Rattle.commit_engine.specs.Halls.{writes_of, IsSpent}
 use Rattle.commit_engine.specs.Holding.{IsQuiet, IsOpen, IsNew, ArePlaced, pages_of}
 use Rattle.commit_engine.specs.Takes.{TookEach, FoundBusy}
 
--- where a write goes, by a word that was read as the top of its page
-abbrev pub top_place : Option Cell → ℕ → Place
-top_place (Some (Top t)) a = if nat_le t a then place.New else place.Nowhere
-top_place _ a = place.Nowhere
-
--- where it goes, by one word that was read
-abbrev pub place_said : ℕ × ℕ → ℕ → Place
-place_said r a = if nat_eq r.0 a && not (is_final_word r.1) then place.Read
-    else (if nat_eq r.0 (1024 * (a / 1024)) then top_place (decoded r.1) a else place.Nowhere)
-
--- what a place says, by the words that were read
-abbrev pub PlaceSays : WordList → ℕ → Place → Type 0
-PlaceSays reads a place.Read = IsOpen reads a
-PlaceSays reads a place.New = IsNew reads a
-PlaceSays reads a place.Nowhere = Unit {0}
+-- the cell is a page's top that the address is not below
+abbrev pub is_above_top : Option Cell → ℕ → Bool
+is_above_top (Some (Top t)) a = nat_le t a
+is_above_top _ a = false
 
 -- A place that is written was put among the new ones, where it is new.
 pub record PutsPlace (reads : WordList) (a : ℕ) (before after : List ℕ) : Type 0 where

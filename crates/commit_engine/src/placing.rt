@@ -1,91 +1,77 @@
 //! Which of the places that an entry writes are new.
-ghost use Rattle.std.specs.Prelude.{◌≡◌, true, IfOk, IfSome};
+ghost use Rattle.std.specs.Prelude.{◌≡◌, ◌↔◌, true, IfOk, IfSome};
 ghost use Rattle.heap_words.specs.Cells.{decoded};
-ghost use Rattle.commit_engine.specs.Holding.{ArePlaced};
-ghost use Rattle.commit_engine.specs.Making.{top_place, place_said, PlaceSays, PutsPlace};
+ghost use Rattle.commit_engine.specs.Holding.{ArePlaced, IsNew, IsOpen};
+ghost use Rattle.commit_engine.specs.Making.{is_above_top, PutsPlace};
 
 use fcp_model::NoMemory;
-use heap_words::{Cell, decode, is_final};
+use heap_words::{Cell, Trail, decode, is_final};
 use page_layout::Written;
 use std::alloc::Global;
 
 /// How many words a page has.
 const PAGE: u32 = 1024;
 
-/// What a place is that is written: it was read and may change, it is not below the top that its page had, or neither.
-#[derive(Clone, Copy)]
-pub(crate) enum Place {
-    Read,
-    New,
-    Nowhere,
+/// Whether the word at an address was read and may change.
+fn is_open(read: &Trail, addr: u32) -> bool
+    ensures { (result ≡ true) ↔ IsOpen read.now.kept addr }
+{
+    read.once();
+    match read.kept_word(addr) {
+        Some(word) => !is_final(word),
+        None => false,
+    }
 }
 
-/// What it is by the word that was read as its page's top.
-fn place_above(word: u64, addr: u32) -> Place
-    ensures { result ≡ top_place (decoded word) addr }
+/// Whether a word says a page's top that an address is not below.
+fn is_above_top(word: u64, addr: u32) -> bool
+    ensures { result ≡ is_above_top (decoded word) addr }
 {
     match decode(word) {
-        Some(Cell::Top(top)) => if top <= addr {
-            Place::New
-        } else {
-            Place::Nowhere
-        },
-        _ => Place::Nowhere,
+        Some(Cell::Top(top)) => top <= addr,
+        _ => false,
     }
 }
 
-/// What it is by one word that was read.
-fn place_by(read: (u32, u64), addr: u32) -> Place
-    ensures { result ≡ place_said read addr }
+/// Whether the top of its page was read, and an address is not below it.
+fn is_new(read: &Trail, addr: u32) -> bool
+    ensures { (result ≡ true) ↔ IsNew read.now.kept addr }
 {
-    if read.0 == addr && !is_final(read.1) {
-        return Place::Read;
+    read.once();
+    match read.kept_word(PAGE * (addr / PAGE)) {
+        Some(word) => is_above_top(word, addr),
+        None => false,
     }
-    if read.0 == PAGE * (addr / PAGE) {
-        return place_above(read.1, addr);
-    }
-    Place::Nowhere
 }
 
-/// What it is by all that was read.
-fn place_of(reads: &[(u32, u64)], addr: u32) -> Place
-    ensures { PlaceSays reads.now addr result }
+/// Puts a place at the end of the list, if it is not open and is new; `false` where it is neither.
+fn put_place(places: &mut Vec<u32>, read: &Trail, addr: u32) -> Result<bool, NoMemory>
+    ensures { IfOk result (λ b. b ≡ true → PutsPlace read.now.kept addr places.old.items places.new.items) }
 {
-    for at in 0..reads.len() {
-        match place_by(reads[at], addr) {
-            Place::Nowhere => {}
-            place => return place,
-        }
+    if is_open(read, addr) {
+        return Ok(true);
     }
-    Place::Nowhere
-}
-
-/// Puts a place at the end of the list, if it is new; `false` where it is neither new nor was read.
-fn put_place(places: &mut Vec<u32>, reads: &[(u32, u64)], addr: u32) -> Result<bool, NoMemory>
-    ensures { IfOk result (λ b. b ≡ true → PutsPlace reads.now addr places.old.items places.new.items) }
-{
-    match place_of(reads, addr) {
-        Place::Read => Ok(true),
-        Place::New => match places.push(addr) {
-            Ok(()) => Ok(true),
-            Err(_) => Err(NoMemory),
-        },
-        Place::Nowhere => Ok(false),
+    if !is_new(read, addr) {
+        return Ok(false);
+    }
+    match places.push(addr) {
+        Ok(()) => Ok(true),
+        Err(_) => Err(NoMemory),
     }
 }
 
 /// The places that are new among those that are written. `None` where one of them is neither new nor was read, which no plan has.
 pub(crate) fn new_places(
     alloc: Global,
-    reads: &[(u32, u64)],
+    read: &Trail,
     writes: &[Written],
 ) -> Result<Option<Vec<u32>>, NoMemory>
-    ensures { IfOk result (λ o. IfSome o (λ v. ArePlaced reads.now writes.now v.items)) }
+    ensures { IfOk result (λ o. IfSome o (λ v. ArePlaced read.now.kept writes.now v.items)) }
 {
     let mut places = Vec::new(alloc);
     for at in 0..writes.len() {
         let write = writes[at];
-        if !put_place(&mut places, reads, write.addr)? {
+        if !put_place(&mut places, read, write.addr)? {
             return Ok(None);
         }
     }

@@ -44,7 +44,8 @@ pub(crate) fn prepare(planner: &mut Planner, process: u32) -> Option<Prepared>
     let Ok(pages) = needed_pages(alloc, reads.as_slice(), planner.writes.as_slice()) else {
         return None;
     };
-    let Ok(Some(places)) = new_places(alloc, reads.as_slice(), planner.writes.as_slice()) else {
+    let Ok(Some(places)) = new_places(alloc, &planner.machine.trail, planner.writes.as_slice())
+    else {
         return None;
     };
     let writes = mem::replace(&mut planner.writes, Vec::new(alloc));

@@ -123,6 +123,8 @@ fn a_word_is_kept_once(rt: HostRuntime) -> Result<(), Fail> {
     assert_eq!(rt; second, 0);
     assert_eq!(rt; trail.kept_at(0), Some((1, 0)));
     assert_eq!(rt; trail.kept_at(1), None);
+    assert_eq!(rt; trail.kept_word(1), Some(0));
+    assert_eq!(rt; trail.kept_word(2), None);
     trail.clear();
     assert_eq!(rt; trail.kept_at(0), None);
     Ok(())

@@ -138,6 +138,13 @@ impl Trail {
         self.kept.at(at)
     }
 
+    /// The word that is kept for an address.
+    pub fn kept_word(&self, addr: u32) -> Option<u64>
+        ensures { result ≡ word_at self.now.kept addr }
+    {
+        self.kept.get(addr)
+    }
+
     /// The private bindings, in the order in which they were made.
     pub fn bound_words(&self) -> &[(u32, u64)]
         ensures { result.now ≡ self.now.binds }

@@ -20,8 +20,8 @@ returns c =
         pages_are = c.in-Ok-needed_pages.ensures ∙ ap (λ (r : WordList). pages_of r c.as_slice-2.result.now) c.as_slice.ensures.value
             ∙ ap (λ (w : List Written). pages_of c.in-Ok.reads.items w) (c.as_slice-2.ensures.value ∙ sym writes);
         placed = subst (λ (w : List Written). ArePlaced c.in-Ok.reads.items w c.in-Ok-Some.places.items)
-            (c.as_slice-4.ensures.value ∙ sym writes)
-            (subst (λ (r : WordList). ArePlaced r c.as_slice-4.result.now c.in-Ok-Some.places.items) c.as_slice-3.ensures.value placed);
+            (c.as_slice-3.ensures.value ∙ sym writes)
+            (subst (λ (r : WordList). ArePlaced r c.as_slice-3.result.now c.in-Ok-Some.places.items) (sym kept) placed);
         is_sound = λ n lt. subst (λ (w : List Written). IsSound c.in-Ok.reads.items (written n w)) (sym writes)
             (subst (λ (r : WordList). IsSound r (written n pl.writes.items)) (sym kept) (c.requires.sound n lt));
         may = λ n ws lt heap has. subst (λ (w : List Written). MayWrite ws (written n w)) (sym writes)
