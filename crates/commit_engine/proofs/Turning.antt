@@ -15,7 +15,7 @@ use Rattle.word_commit.specs.declared.quota.Quota.{Quota}
 use Rattle.word_moves.specs.declared.word_move.WordMove.{WordMove}
 use Rattle.word_moves.specs.Planned.{IsCarried, IsSafeMove}
 use Rattle.move_plans.specs.declared.planner.Planner.{Planner}
-use Rattle.move_plans.specs.Plans.{NamesMover, IsPlan, move_of}
+use Rattle.move_plans.specs.Plans.{NamesMover, IsPlan, IsLargePlan, move_of}
 use Rattle.commit_engine.specs.declared.answer.Turn.{Turn}
 use Rattle.commit_engine.specs.declared.answer.Turn.TheVariants as answer
 use Rattle.commit_engine.specs.declared.answer.Spent.TheVariants as spent
@@ -233,23 +233,33 @@ module _ {S : Type 0} {addresses : S → ℕ} {sound : S → Type 0} {knows : S 
       l.found_after old mid new a y si h.2,
       h.3,
     )
-    finish_turn (answer.Spent (spent.Cells needed left)) h = (
-      l.silent_twice old mid new si h.0,
-      ap (λ (q : Quota). q.cells) (sym same_purse) ∙ h.1,
-      h.2,
-      record {
-        plan = subst (λ (pl : Planner). IsPlan t pl p) (sym h.4) plan;
-        cells = ap (λ (pl : Planner). pl.cells) h.4 ∙ h.3;
-        words = λ a x k.
-            read_found old mid new before.machine.trail.kept a x s ld h.0
-            (subst (λ (pl : Planner). word_at pl.machine.trail.kept a ≡ Some x) h.4 k);
-      },
-    )
-    finish_turn (answer.Spent spent.Moves) h = absurd h
-    finish_turn (answer.Spent spent.Commits) h = absurd h
+    finish_turn (answer.Spent q) h = absurd h
     finish_turn answer.NoMemory h = l.silent_twice old mid new si h
     finish_turn answer.Fails h = absurd h
     finish_turn (answer.Gone d) h = absurd h
+
+  -- after loads as many cells are left
+  pub enough_still : (old new : S) (needed left : ℕ) → later old new → left ≡ (purse old).cells → needed ≤ left
+      → needed ≤ (purse new).cells
+  enough_still old new needed left la same enough =
+      subst (λ (n : ℕ). needed ≤ n) (same ∙ ap (λ (q : Quota). q.cells) (sym (l.later_rest old new la).2)) enough
+
+  -- a move is too large for what is left of the quota
+  pub large_turn : (t : Tables) (old new : S) (pl : Planner) (p needed left : ℕ) → sound old → later old new
+      → Loads addresses sound had shown later gave [] old pl.machine.trail.kept new → IsLargePlan t pl p needed
+      → left ≡ (purse old).cells → left < needed
+      → TurnSays found takes purse silent added t old new pl p (answer.Spent (spent.Cells needed left))
+  large_turn t old new pl p needed left s la ld plan same large = (
+    l.later_silent old new s la,
+    sym same,
+    large,
+    record {
+      plan = plan;
+      words = λ a x k.
+          let k' = w.stays_sound old new s la in
+          read_found old new new pl.machine.trail.kept a x s ld (l.later_silent new new k' (w.still new k')) k;
+    },
+  )
 
   -- loads before leave the same
   pub left_after : (old mid new : S) (r : Turn) → sound old → later old mid → IsLeft page_count purse spare alone mid new r

@@ -1,5 +1,5 @@
 -- What the end of a turn says, of the hall before and after it, and of the planner with the move that is made.
-use Rattle.std.specs.Prelude.{◌≡◌, ℕ, ◌-◌, ◌<◌, Bool, true, false, List, if◌then◌else◌}
+use Rattle.std.specs.Prelude.{◌≡◌, ℕ, ◌-◌, Bool, true, false, List, if◌then◌else◌}
 use Rattle.fcp_model.specs.declared.run.Entry.{Entry}
 use Rattle.fcp_model.specs.declared.run.Entry.TheVariants.{Commit}
 use Rattle.word_states.specs.Words.{Among}
@@ -10,7 +10,6 @@ use Rattle.move_plans.specs.declared.planner.Planner.{Planner}
 use Rattle.move_plans.specs.Plans.{move_of}
 use Rattle.commit_engine.specs.declared.answer.Turn.{Turn}
 use Rattle.commit_engine.specs.declared.answer.Turn.TheVariants as answer
-use Rattle.commit_engine.specs.declared.answer.Spent.TheVariants as spent
 use Rattle.commit_engine.specs.declared.making.Making.{Making}
 use Rattle.commit_engine.specs.declared.making.Making.TheVariants as making
 use Rattle.commit_engine.specs.declared.prepared.Prepared.{Prepared}
@@ -68,7 +67,5 @@ module _ {S : Type 0} (page_count : S → ℕ) (due : S → Bool) (purse : S →
   FinishSays (answer.Hung n) = (e : WordMove) × IsEntered e n × IsHang e.entry
   FinishSays (answer.Busy page) = silent old new × FoundBusy (takes old) (takes new) page
   FinishSays (answer.Stale a x y) = silent old new × Among before.machine.trail.kept (a, x) × found old new a y × (x ≡ y → ⊥)
-  FinishSays (answer.Spent (spent.Cells needed left)) =
-      silent old new × ((purse old).cells ≡ left) × (left < needed) × (before.cells ≡ needed) × (after ≡ before)
   FinishSays answer.NoMemory = silent old new
   FinishSays _ = ⊥

@@ -15,7 +15,7 @@ use Rattle.word_commit.specs.declared.quota.Quota.{Quota}
 use Rattle.word_moves.specs.declared.word_move.WordMove.{WordMove}
 use Rattle.word_moves.specs.Planned.{IsSafeMove, IsCarried}
 use Rattle.move_plans.specs.declared.planner.Planner.{Planner}
-use Rattle.move_plans.specs.Plans.{NamesMover, IsPlan}
+use Rattle.move_plans.specs.Plans.{NamesMover, IsPlan, IsLargePlan}
 use Rattle.commit_engine.specs.declared.answer.Turn.{Turn}
 use Rattle.commit_engine.specs.declared.answer.Turn.TheVariants as answer
 use Rattle.commit_engine.specs.declared.answer.Spent.TheVariants as spent
@@ -74,10 +74,9 @@ module _ {S : Type 0} (found : S → S → ℕ → ℕ → Type 0) (takes : S �
     pub fail : IsFail pl.entry
     pub words : (a x : ℕ) → word_at pl.machine.trail.kept a ≡ Some x → found old new a x
 
-  -- a move of the process was planned that has so many cells
+  -- a move is decided for the process by words that were found, and has so many cells
   pub record IsLarge (needed : ℕ) : Type 0 where
-    pub plan : IsPlan t pl p
-    pub cells : pl.cells ≡ needed
+    pub plan : IsLargePlan t pl p needed
     pub words : (a x : ℕ) → word_at pl.machine.trail.kept a ≡ Some x → found old new a x
 
   -- what the answer says; but for an entry that was made, no entry lies between the two

@@ -1,5 +1,5 @@
 //! A turn.
-ghost use Rattle.std.specs.Prelude.{◌≡◌, ◌⊎◌, ◌-◌, ◌<◌, ℕ, true, false, if◌then◌else◌};
+ghost use Rattle.std.specs.Prelude.{◌≡◌, ◌⊎◌, ◌-◌, ◌<◌, ◌≤◌, ℕ, true, false, if◌then◌else◌};
 ghost use Rattle.word_states.specs.Words.{Among};
 ghost use Rattle.trial_machine.specs.Goals.{HasStatus};
 ghost use Rattle.word_moves.specs.Planned.{IsSafeMove};
@@ -61,7 +61,7 @@ fn make_prepared<H: Hall>(hall: &mut H, prepared: Prepared) -> Turn
     answer_by(kind, make(hall, entry, pages.as_slice(), places.as_slice()))
 }
 
-/// The end of a turn: the move that is planned, which is a commit or a hang, is made.
+/// The end of a turn: the move that is planned, which is a commit or a hang whose cells are left, is made.
 fn finish<H: Hall>(hall: &mut H, planner: &mut Planner, process: u32) -> Turn
     requires sound { H.sound hall.old }
     requires idle { H.due hall.old ≡ false }
@@ -70,6 +70,7 @@ fn finish<H: Hall>(hall: &mut H, planner: &mut Planner, process: u32) -> Turn
     requires quota { (0 < (H.purse hall.old).commits) × (0 < (H.purse hall.old).moves) }
     requires safe { IsSafeMove (move_of planner.old process) }
     requires kind { IsCommit planner.old.entry ⊎ IsHang planner.old.entry }
+    requires cells { planner.old.cells ≤ (H.purse hall.old).cells }
     requires had { (a x : ℕ) → Among planner.old.machine.trail.kept (a, x) → H.had hall.old a x }
     requires same { H.alone hall.old → (w : H) (a x y : ℕ) → Among planner.old.machine.trail.kept (a, x) → H.found hall.old w a y → x ≡ y }
     ensures sound { H.sound hall.new }
@@ -79,11 +80,6 @@ fn finish<H: Hall>(hall: &mut H, planner: &mut Planner, process: u32) -> Turn
         process result }
     ensures rest { IsLeft H.page_count H.purse H.spare H.alone hall.old hall.new result }
 {
-    let left = hall.quota().cells;
-    let needed = planner.cells;
-    if left < needed {
-        return Turn::Spent(Spent::Cells { needed, left });
-    }
     match prepare(planner, process) {
         Some(prepared) => make_prepared(hall, prepared),
         None => Turn::NoMemory,
@@ -105,7 +101,8 @@ fn go_on<H: Hall>(hall: &mut H, planner: &mut Planner, code: &Code, process: u32
     ensures rest { IsLeft H.page_count H.purse H.spare H.alone hall.old hall.new result }
 {
     let pages = hall.pages();
-    let Ok(planned) = planner.plan(code, hall, process, pages) else {
+    let left = hall.quota().cells;
+    let Ok(planned) = planner.plan(code, hall, process, pages, left) else {
         return Turn::NoMemory;
     };
     match planned {
@@ -113,6 +110,10 @@ fn go_on<H: Hall>(hall: &mut H, planner: &mut Planner, code: &Code, process: u32
         Planned::Hangs => finish(hall, planner, process),
         Planned::Fails => Turn::Fails,
         Planned::Gone(stand) => Turn::Gone(stand),
+        Planned::Large { cells } => Turn::Spent(Spent::Cells {
+            needed: cells,
+            left,
+        }),
         // No page has the room: a hall is made with pages enough.
         Planned::Full => Turn::NoMemory,
     }

@@ -12,6 +12,7 @@ use Rattle.word_states.specs.Led.{ReadsPlace}
 use Rattle.word_states.specs.Trials.{AreReads}
 use Rattle.word_states.specs.Words.{At, Among, IsIn, addresses_of}
 use Rattle.word_states.proofs.Lists.{among_word, apart_word, among_either}
+use Rattle.machine_code.specs.Compiling.{Tables}
 use Rattle.page_layout.specs.Hangs.{threes}
 use Rattle.safe_tries.specs.Stored.{IsStored}
 use Rattle.stored_tries.proofs.Lists.{once_apart, once_word}
@@ -23,6 +24,7 @@ use Rattle.move_plans.specs.declared.mover.Mover.{Mover}
 use Rattle.move_plans.specs.declared.mover.Mover.TheVariants.{Named, Other, Nowhere}
 use Rattle.move_plans.specs.Movers.{MoverSays, MoverRead}
 use Rattle.move_plans.specs.Places.{PutsPlace, HasPlaces}
+use Rattle.move_plans.specs.Sizes.{CellsRead}
 use Rattle.move_plans.proofs.Rereading.{Grows}
 
 -- the process, by the words of its status and of its name
@@ -37,7 +39,13 @@ pub number_more : (kept kept' : WordList) (a : ℕ) (o : Option ℕ) → Grows k
 number_more kept kept' a None grows r = (r.0, grows a r.0 r.1, r.2)
 number_more kept kept' a (Some n) grows r = (r.0, grows a r.0 r.1, r.2)
 
--- and so does a process
+-- and so do the cells
+pub cells_more : (t : Tables) (kept kept' : WordList) (p k cells : ℕ) → Grows kept kept' → CellsRead t kept p k cells
+    → CellsRead t kept' p k cells
+cells_more t kept kept' p k cells grows r =
+    (r.0, r.1, number_more kept kept' (p + 2) r.0 grows r.2, number_more kept kept' (p + 3) r.1 grows r.3, r.4)
+
+-- and a process
 pub process_more : (kept kept' : WordList) (p z : ℕ) → Grows kept kept' → ReadsProcess kept p z → ReadsProcess kept' p z
 process_more kept kept' p z grows r = record {
   status = (r.status.0, grows p r.status.0 r.status.1, r.status.2);

@@ -1,5 +1,5 @@
 -- What a planner answers for a process, by the words that it read.
-use Rattle.std.specs.Prelude.{◌≡◌, ℕ, ◌+◌, ◌<◌, pos, Some}
+use Rattle.std.specs.Prelude.{◌≡◌, ℕ, ◌+◌, ◌<◌, ◌≤◌, pos, Some}
 use Rattle.fcp_model.specs.declared.run.Entry.{Entry}
 use Rattle.fcp_model.specs.declared.run.Entry.TheVariants.{Commit, Hang, Fail}
 use Rattle.fcp_model.specs.declared.run.Proc.{Proc}
@@ -10,10 +10,14 @@ use Rattle.heap_words.specs.declared.cell.Cell.TheVariants.{Small, Status}
 use Rattle.heap_words.specs.declared.cell.Stand.TheVariants.{Ready}
 use Rattle.word_states.specs.Words.{At}
 use Rattle.word_states.specs.Standing.{name_code}
+use Rattle.word_states.specs.Trials.{AreReads}
+use Rattle.word_states.specs.Costs.{DecidesCells}
 use Rattle.word_states.specs.Going.{Move, Fits}
 use Rattle.page_layout.specs.Writing.{written}
 use Rattle.machine_code.specs.Compiling.{Tables}
-use Rattle.trial_machine.specs.Deciding.{IsCodeOf}
+use Rattle.trial_machine.specs.Deciding.{Decides, IsCodeOf}
+use Rattle.trial_machine.specs.declared.decide.Trial.{Trial}
+use Rattle.trial_machine.specs.declared.decide.Trial.TheVariants.{Fails}
 use Rattle.word_moves.specs.Planned.{IsSafeMove}
 use Rattle.move_plans.specs.declared.planner.Planner.{Planner}
 use Rattle.move_plans.specs.declared.planner.Planned.{Planned}
@@ -54,11 +58,22 @@ pub record IsPlan (t : Tables) (pl : Planner) (p : ℕ) : Type 0 where
   pub safe : IsSafeMove (move_of pl p)
   pub fits : (m : Program) → IsCodeOf t m → Fits m (move_of pl p)
 
--- by the answer: a commit or a hang, a fail, a process that is not Ready, or one whose move finds no room in the pages
-abbrev pub PlanSays : Tables → Planner → ℕ → Planned → Type 0
-PlanSays t pl p planned.Commits = IsPlan t pl p × ((q : Proc) × (k : ℕ) × (pl.entry ≡ Commit q k))
-PlanSays t pl p planned.Hangs = IsPlan t pl p × ((q : Proc) × (pl.entry ≡ Hang q))
-PlanSays t pl p planned.Fails = IsPlan t pl p × ((q : Proc) × (pl.entry ≡ Fail q))
-PlanSays t pl p (planned.Gone d) =
+-- A commit or a hang is decided for a Ready process by what was read, and its entry has so many cells, for each program of which the code is.
+pub record IsLargePlan (t : Tables) (pl : Planner) (p needed : ℕ) : Type 0 where
+  pub is_ready : At (word_at pl.machine.trail.kept) p (Status Ready)
+  pub reads : AreReads pl.machine.trail.kept
+  pub trial : Trial
+  pub decided : Decides t pl.machine p trial
+  pub goes_on : trial ≡ Fails → ⊥
+  pub costs : (m : Program) → IsCodeOf t m → DecidesCells m pl.machine.trail.kept p needed
+
+-- by the answer: a commit or a hang of no more cells than are left, a fail, a process that is not Ready, one whose move has more cells than
+-- are left, or one whose move finds no room in the pages
+abbrev pub PlanSays : Tables → Planner → ℕ → ℕ → Planned → Type 0
+PlanSays t pl p left planned.Commits = IsPlan t pl p × ((q : Proc) × (k : ℕ) × (pl.entry ≡ Commit q k)) × (pl.cells ≤ left)
+PlanSays t pl p left planned.Hangs = IsPlan t pl p × ((q : Proc) × (pl.entry ≡ Hang q)) × (pl.cells ≤ left)
+PlanSays t pl p left planned.Fails = IsPlan t pl p × ((q : Proc) × (pl.entry ≡ Fail q))
+PlanSays t pl p left (planned.Gone d) =
     (x : ℕ) × (word_at pl.machine.trail.kept p ≡ Some x) × (decoded x ≡ Some (Status d)) × (d ≡ Ready → ⊥)
-PlanSays t pl p planned.Full = Unit {0}
+PlanSays t pl p left (planned.Large cells) = IsLargePlan t pl p cells × (left < cells)
+PlanSays t pl p left planned.Full = Unit {0}

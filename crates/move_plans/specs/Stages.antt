@@ -1,13 +1,11 @@
 -- What holds between the stages of a plan.
 use Rattle.std.specs.Prelude.{◌≡◌, ℕ, List, length, map}
 use Rattle.std.specs.List.{concat}
-use Rattle.fcp_model.specs.Programs.{Program}
 use Rattle.heap_words.specs.Trails.{WordList}
 use Rattle.word_states.specs.Words.{addresses_of}
 use Rattle.page_layout.specs.Looking.{Rise}
-use Rattle.machine_code.specs.Compiling.{Tables}
-use Rattle.trial_machine.specs.Deciding.{HandedOver, IsCodeOf}
-use Rattle.word_moves.specs.Planned.{ReadsProcess, CellsSay, IsPlannedCommit, IsPlannedHang}
+use Rattle.trial_machine.specs.Deciding.{HandedOver}
+use Rattle.word_moves.specs.Planned.{ReadsProcess, IsPlannedCommit, IsPlannedHang}
 use Rattle.move_plans.specs.declared.planner.Planner.{Planner}
 
 -- what was handed over, with more that was read
@@ -30,9 +28,8 @@ abbrev pub PlansCommit : Planner → ℕ → ℕ → Type 0
 PlansCommit pl p z = IsPlannedCommit pl.machine.trail.kept p z pl.machine.binds.items (sizes_of pl.machine.desk.pieces)
     (concat pl.machine.desk.pieces) pl.woken.items pl.rooms.items pl.table.items
 
--- A commit is laid, and these are its cells.
-pub record LaysCommit (t : Tables) (kept : WordList) (pl : Planner) (p cells : ℕ) : Type 0 where
+-- A commit of the process at p is laid, by any name.
+pub record LaysCommit (kept : WordList) (pl : Planner) (p : ℕ) : Type 0 where
   pub planned : (z : ℕ) → ReadsProcess kept p z → PlansCommit pl p z
   pub rise : Rise pl.rooms.items
   pub bound : pl.bound.items ≡ addresses_of pl.machine.binds.items
-  pub cells_say : (m : Program) → IsCodeOf t m → CellsSay m pl.machine.trail.kept p pl.machine.desk.clause cells

@@ -1,5 +1,5 @@
 //! The plan of a commit.
-ghost use Rattle.std.specs.Prelude.{◌≡◌, ◌*◌, ◌<◌, ◌≤◌, ℕ, [], OnOk, IfOk, IfSome};
+ghost use Rattle.std.specs.Prelude.{◌≡◌, ◌*◌, ◌<◌, ◌≤◌, ℕ, [], true, OnOk, IfOk};
 ghost use Rattle.std.specs.List.{concat};
 ghost use Rattle.word_states.specs.Trials.{IsReadCommit};
 ghost use Rattle.word_states.specs.Words.{addresses_of};
@@ -10,6 +10,7 @@ ghost use Rattle.trial_machine.specs.Stores.{Loads};
 ghost use Rattle.trial_machine.specs.declared.decide.Trial.TheVariants.{Commit};
 ghost use Rattle.word_moves.specs.Planned.{ReadsProcess, IsCommitMove};
 ghost use Rattle.move_plans.specs.Plans.{move_of, PlanSays};
+ghost use Rattle.move_plans.specs.Sizes.{CellsRead};
 ghost use Rattle.move_plans.specs.Stages.{rereads, sizes_of, PlansCommit, LaysCommit};
 
 use crate::cells::load_cells;
@@ -24,17 +25,41 @@ use machine_code::Code;
 use page_layout::{first_open, put_commit};
 
 impl Planner {
-    /// Finds whom a commit wakes, and lays its pieces; answers its cells, or `None` where a piece finds no room.
-    fn lay_commit<W: Words>(
+    /// Loads the numbers of a process that commits by what was read, and answers the cells of its commit.
+    fn read_cells<W: Words>(
         &mut self,
         code: &Code,
         words: &mut W,
         process: u32,
-        pages: u32,
-    ) -> Result<Option<u32>, NoMemory>
+        name: u64,
+    ) -> Result<u32, NoMemory>
         requires stored { IsStored W.addresses W.sound W.had W.shown W.later self.old.machine.trail.kept words.old }
         requires free { self.old.machine.trail.binds ≡ [] }
-        requires mover { (z : ℕ) × ReadsProcess self.old.machine.trail.kept process z }
+        requires mover { ReadsProcess self.old.machine.trail.kept process name }
+        requires decided { Decides code.now self.old.machine process Commit }
+        ensures between { W.later words.old words.new }
+        ensures loaded { OnOk result (Loads W.addresses W.sound W.had W.shown W.later W.gave self.old.machine.trail.kept words.old
+            self.new.machine.trail.kept words.new) }
+        ensures free { OnOk result (self.new.machine.trail.binds ≡ []) }
+        ensures mover { OnOk result (ReadsProcess self.new.machine.trail.kept process name) }
+        ensures decided { OnOk result (Decides code.now self.new.machine process Commit) }
+        ensures cells { IfOk result (CellsRead code.now self.new.machine.trail.kept process self.new.machine.desk.clause) }
+    {
+        let clause = self.machine.desk.clause;
+        let cells = load_cells(&mut self.machine.trail, words, code, process, clause)?;
+        self.machine.trail.once();
+        Ok(cells)
+    }
+
+    /// Finds whom a commit wakes, and lays its pieces; answers whether all found room.
+    fn lay_commit<W: Words>(
+        &mut self,
+        words: &mut W,
+        process: u32,
+        pages: u32,
+    ) -> Result<bool, NoMemory>
+        requires stored { IsStored W.addresses W.sound W.had W.shown W.later self.old.machine.trail.kept words.old }
+        requires free { self.old.machine.trail.binds ≡ [] }
         requires commit { IsReadCommit self.old.machine.trail.kept self.old.machine.binds.items self.old.machine.desk.pieces }
         requires small { pages ≤ 3906250 }
         requires known { (p : ℕ) → p < pages → W.knows words.old (1024 * p) }
@@ -43,10 +68,8 @@ impl Planner {
             self.new.machine.trail.kept words.new) }
         ensures hands { OnOk result (handed_over self.new.machine ≡ rereads (handed_over self.old.machine)
             self.new.machine.trail.kept) }
-        ensures lays { IfOk result (λ o. IfSome o (LaysCommit code.now self.old.machine.trail.kept self.new process)) }
+        ensures lays { IfOk result (λ t. t ≡ true → LaysCommit self.old.machine.trail.kept self.new process) }
     {
-        let clause = self.machine.desk.clause;
-        let cells = load_cells(&mut self.machine.trail, words, code, process, clause)?;
         let binds = self.machine.binds.as_slice();
         find_woken(
             &mut self.wakers,
@@ -66,7 +89,7 @@ impl Planner {
             self.machine.desk.pieces.sizes(),
         )?;
         self.machine.trail.once();
-        Ok(if laid { Some(cells) } else { None })
+        Ok(laid)
     }
 
     /// Puts what is known of a commit whose pieces are laid.
@@ -103,6 +126,41 @@ impl Planner {
         Ok(())
     }
 
+    /// Plans the commit of a process that commits by what was read, whose cells were told and are left.
+    fn plan_small_commit<W: Words>(
+        &mut self,
+        code: &Code,
+        words: &mut W,
+        process: u32,
+        name: u64,
+        pages: u32,
+        left: u32,
+        cells: u32,
+    ) -> Result<Planned, NoMemory>
+        requires stored { IsStored W.addresses W.sound W.had W.shown W.later self.old.machine.trail.kept words.old }
+        requires free { self.old.machine.trail.binds ≡ [] }
+        requires mover { ReadsProcess self.old.machine.trail.kept process name }
+        requires small_name { name < 36028797018963968 }
+        requires decided { Decides code.now self.old.machine process Commit }
+        requires cells { CellsRead code.now self.old.machine.trail.kept process self.old.machine.desk.clause cells }
+        requires enough { cells ≤ left }
+        requires small { pages ≤ 3906250 }
+        requires known { (p : ℕ) → p < pages → W.knows words.old (1024 * p) }
+        ensures between { W.later words.old words.new }
+        ensures loaded { OnOk result (Loads W.addresses W.sound W.had W.shown W.later W.gave self.old.machine.trail.kept words.old
+            self.new.machine.trail.kept words.new) }
+        ensures says { IfOk result (λ d. PlanSays code.now self.new process left d) }
+    {
+        let laid = self.lay_commit(words, process, pages)?;
+        if laid {
+            self.put_commit_move(process, name, cells)?;
+            word_moves::fits();
+            word_moves::safe();
+            return Ok(Planned::Commits);
+        }
+        Ok(Planned::Full)
+    }
+
     /// Plans the commit of a process that commits by what was read.
     pub(crate) fn plan_commit<W: Words>(
         &mut self,
@@ -111,6 +169,7 @@ impl Planner {
         process: u32,
         name: u64,
         pages: u32,
+        left: u32,
     ) -> Result<Planned, NoMemory>
         requires stored { IsStored W.addresses W.sound W.had W.shown W.later self.old.machine.trail.kept words.old }
         requires free { self.old.machine.trail.binds ≡ [] }
@@ -122,14 +181,13 @@ impl Planner {
         ensures between { W.later words.old words.new }
         ensures loaded { OnOk result (Loads W.addresses W.sound W.had W.shown W.later W.gave self.old.machine.trail.kept words.old
             self.new.machine.trail.kept words.new) }
-        ensures says { IfOk result (λ d. PlanSays code.now self.new process d) }
+        ensures says { IfOk result (λ d. PlanSays code.now self.new process left d) }
     {
-        let Some(cells) = self.lay_commit(code, words, process, pages)? else {
-            return Ok(Planned::Full);
-        };
-        self.put_commit_move(process, name, cells)?;
-        word_moves::fits();
-        word_moves::safe();
-        Ok(Planned::Commits)
+        let cells = self.read_cells(code, words, process, name)?;
+        if cells > left {
+            return Ok(Planned::Large { cells });
+        }
+        let planned = self.plan_small_commit(code, words, process, name, pages, left, cells)?;
+        Ok(planned)
     }
 }

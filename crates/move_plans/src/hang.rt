@@ -1,5 +1,5 @@
 //! The plan of a hang.
-ghost use Rattle.std.specs.Prelude.{◌≡◌, ◌*◌, ◌<◌, ◌≤◌, ℕ, [], true, OnOk, IfOk};
+ghost use Rattle.std.specs.Prelude.{◌≡◌, ◌*◌, ◌<◌, ◌≤◌, ℕ, [], length, true, OnOk, IfOk};
 ghost use Rattle.word_states.specs.Trials.{IsReadWait};
 ghost use Rattle.word_states.specs.Words.{addresses_of};
 ghost use Rattle.page_layout.specs.Looking.{Rise};
@@ -71,12 +71,10 @@ impl Planner {
             self.old.table.items }
         requires rise { Rise self.old.rooms.items }
         requires places { addresses_of self.old.lists.items ≡ self.old.machine.waits }
+        requires few { length self.old.machine.waits < 89478485 }
         ensures { OnOk result (IsHangMove (move_of self.new process) self.old.machine.trail.kept process name self.old.lists.items
             self.old.rooms.items self.old.table.items) }
     {
-        if self.lists.len() > MOST {
-            return Err(NoMemory);
-        }
         let lists = self.lists.as_slice();
         put_hang(
             &mut self.writes,
@@ -97,6 +95,52 @@ impl Planner {
         Ok(())
     }
 
+    /// The cells of the hang of a process that waits. `Err` is the answer for more places than may be waited for.
+    fn hang_cells(&self) -> Result<u32, NoMemory>
+        ensures cells { IfOk result (λ n. n ≡ 3 * length self.now.machine.waits) }
+        ensures few { OnOk result (length self.now.machine.waits < 89478485) }
+    {
+        let count = self.machine.waits.as_slice().len();
+        if count > MOST {
+            return Err(NoMemory);
+        }
+        Ok(3 * count as u32)
+    }
+
+    /// Plans the hang of a process that waits by what was read, whose cells are left.
+    fn plan_small_hang<W: Words>(
+        &mut self,
+        code: &Code,
+        words: &mut W,
+        process: u32,
+        name: u64,
+        pages: u32,
+        left: u32,
+    ) -> Result<Planned, NoMemory>
+        requires stored { IsStored W.addresses W.sound W.had W.shown W.later self.old.machine.trail.kept words.old }
+        requires free { self.old.machine.trail.binds ≡ [] }
+        requires mover { ReadsProcess self.old.machine.trail.kept process name }
+        requires small_name { name < 36028797018963968 }
+        requires decided { Decides code.now self.old.machine process Wait }
+        requires few { length self.old.machine.waits < 89478485 }
+        requires enough { 3 * length self.old.machine.waits ≤ left }
+        requires small { pages ≤ 3906250 }
+        requires known { (p : ℕ) → p < pages → W.knows words.old (1024 * p) }
+        ensures between { W.later words.old words.new }
+        ensures loaded { OnOk result (Loads W.addresses W.sound W.had W.shown W.later W.gave self.old.machine.trail.kept words.old
+            self.new.machine.trail.kept words.new) }
+        ensures says { IfOk result (λ d. PlanSays code.now self.new process left d) }
+    {
+        let laid = self.lay_hang(words, process, pages)?;
+        if laid {
+            self.put_hang_move(process, name)?;
+            word_moves::fits();
+            word_moves::safe();
+            return Ok(Planned::Hangs);
+        }
+        Ok(Planned::Full)
+    }
+
     /// Plans the hang of a process that waits by what was read.
     pub(crate) fn plan_hang<W: Words>(
         &mut self,
@@ -105,6 +149,7 @@ impl Planner {
         process: u32,
         name: u64,
         pages: u32,
+        left: u32,
     ) -> Result<Planned, NoMemory>
         requires stored { IsStored W.addresses W.sound W.had W.shown W.later self.old.machine.trail.kept words.old }
         requires free { self.old.machine.trail.binds ≡ [] }
@@ -116,15 +161,13 @@ impl Planner {
         ensures between { W.later words.old words.new }
         ensures loaded { OnOk result (Loads W.addresses W.sound W.had W.shown W.later W.gave self.old.machine.trail.kept words.old
             self.new.machine.trail.kept words.new) }
-        ensures says { IfOk result (λ d. PlanSays code.now self.new process d) }
+        ensures says { IfOk result (λ d. PlanSays code.now self.new process left d) }
     {
-        let laid = self.lay_hang(words, process, pages)?;
-        if laid {
-            self.put_hang_move(process, name)?;
-            word_moves::fits();
-            word_moves::safe();
-            return Ok(Planned::Hangs);
+        let cells = self.hang_cells()?;
+        if cells > left {
+            return Ok(Planned::Large { cells });
         }
-        Ok(Planned::Full)
+        let planned = self.plan_small_hang(code, words, process, name, pages, left)?;
+        Ok(planned)
     }
 }

@@ -66,14 +66,14 @@ impl Planner {
         Ok((trial, mover))
     }
 
-    /// Plans the fail of a process that fails by what was read.
-    fn plan_fail(&mut self, code: &Code, process: u32, name: u64) -> Planned
+    /// Plans the fail of a process that fails by what was read. It has no cells.
+    fn plan_fail(&mut self, code: &Code, process: u32, name: u64, left: u32) -> Planned
         requires mover { ReadsProcess self.old.machine.trail.kept process name }
         requires small_name { name < 36028797018963968 }
         requires reads { AreReads self.old.machine.trail.kept }
         requires decided { Decides code.now self.old.machine process Fails }
         ensures kept { self.new.machine.trail.kept ≡ self.old.machine.trail.kept }
-        ensures says { PlanSays code.now self.new process result }
+        ensures says { PlanSays code.now self.new process left result }
     {
         self.put_fail(process, name);
         word_moves::fits();
@@ -90,6 +90,7 @@ impl Planner {
         name: u64,
         trial: Trial,
         pages: u32,
+        left: u32,
     ) -> Result<Planned, NoMemory>
         requires stored { IsStored W.addresses W.sound W.had W.shown W.later self.old.machine.trail.kept words.old }
         requires free { self.old.machine.trail.binds ≡ [] }
@@ -102,24 +103,25 @@ impl Planner {
         ensures between { W.later words.old words.new }
         ensures loaded { OnOk result (Loads W.addresses W.sound W.had W.shown W.later W.gave self.old.machine.trail.kept words.old
             self.new.machine.trail.kept words.new) }
-        ensures says { IfOk result (λ d. PlanSays code.now self.new process d) }
+        ensures says { IfOk result (λ d. PlanSays code.now self.new process left d) }
     {
         match trial {
-            Trial::Commit => self.plan_commit(code, words, process, name, pages),
-            Trial::Wait => self.plan_hang(code, words, process, name, pages),
-            Trial::Fails => Ok(self.plan_fail(code, process, name)),
+            Trial::Commit => self.plan_commit(code, words, process, name, pages, left),
+            Trial::Wait => self.plan_hang(code, words, process, name, pages, left),
+            Trial::Fails => Ok(self.plan_fail(code, process, name, left)),
         }
     }
 
     /// Plans the move of the process at an address, by words that it loads: what the trial decides, whom it wakes, and where its words go
-    /// among so many pages, by first fit from the page `open` on, and where that fails from the first one on. After `NoMemory` the planner
-    /// may plan other moves.
+    /// among so many pages, by first fit from the page `open` on, and where that fails from the first one on. A move of more cells than are
+    /// left is `Large`, and no room is looked for. After `NoMemory` the planner may plan other moves.
     pub fn plan<W: Words>(
         &mut self,
         code: &Code,
         words: &mut W,
         process: u32,
         pages: u32,
+        left: u32,
     ) -> Result<Planned, NoMemory>
         requires stored { IsStored W.addresses W.sound W.had W.shown W.later [] words.old }
         requires process { HasStatus W.had words.old process }
@@ -128,12 +130,12 @@ impl Planner {
         ensures between { W.later words.old words.new }
         ensures loaded { OnOk result (Loads W.addresses W.sound W.had W.shown W.later W.gave [] words.old self.new.machine.trail.kept
             words.new) }
-        ensures says { IfOk result (λ d. PlanSays code.now self.new process d) }
+        ensures says { IfOk result (λ d. PlanSays code.now self.new process left d) }
     {
         let (trial, mover) = self.begin(code, words, process)?;
         match mover {
             Mover::Named(name) => {
-                let planned = self.plan_trial(code, words, process, name, trial, pages)?;
+                let planned = self.plan_trial(code, words, process, name, trial, pages, left)?;
                 Ok(planned)
             }
             Mover::Other(stand) => Ok(Planned::Gone(stand)),

@@ -38,6 +38,8 @@ pub enum Planned {
     Fails,
     /// The process is not Ready.
     Gone(Stand),
+    /// The process is Ready, and its entry has so many cells, which are more than are left. No room was looked for.
+    Large { cells: u32 },
     /// No page has the room that the entry needs.
     Full,
 }

@@ -4,5 +4,6 @@ pub mod Fronts
 pub mod KnownWords
 pub mod MoveLines
 pub mod NewPlaces
+pub mod Passing
 pub mod RuledFronts
 pub mod Steps

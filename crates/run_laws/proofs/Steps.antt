@@ -1,4 +1,4 @@
--- What a commit, a hang, a pass and a fail of the front make of where the run stands, and when it ends.
+-- What a commit, a hang and a fail of the front make of where the run stands, and when it ends.
 use Rattle.std.proofs.Common.{◌≡◌, ◌⊎◌, ℕ, suc, ◌+◌, ◌<◌, ◌≤◌, Bool, true, false, cond, not, List, [], ◌∷◌, ◌++◌, length, map, Some, refl, sym, ap, ◌∙◌, subst, inl, inr, append-nil, arith}
 use Rattle.std.specs.Prelude.{filter, option_map, nat_le, ◌||◌}
 use Rattle.std.proofs.lemmas.List.{length-map}
@@ -14,7 +14,7 @@ use Rattle.fcp_model.specs.Cells.{clause_used}
 use Rattle.fcp_model.specs.States.{Process, State, waiting, is_running, process_named, ready}
 use Rattle.fcp_model.specs.Events.{Event, event_of, is_woken, made_ready}
 use Rattle.fcp_model.specs.Bounds.{is_commit, one}
-use Rattle.fcp_model.specs.OneWorker.{Schedule, ends, makes, passes, after_event, front_ruling, queue_ruling, ruling, begin, Leads, IsOneWorkerRun}
+use Rattle.fcp_model.specs.OneWorker.{Schedule, ends, makes, after_event, front_ruling, queue_ruling, ruling, begin, Leads, IsOneWorkerRun}
 use Rattle.fcp_laws.specs.Schedules.{IsSoundSchedule}
 use Rattle.fcp_laws.specs.WaitingProcesses.{waiting_of, with_process}
 use Rattle.fcp_laws.proofs.Leading.{led_on}
@@ -24,9 +24,9 @@ use Rattle.heap_words.specs.Heaps.{IsHeap, inside_at}
 use Rattle.word_states.specs.Words.{Words, HasAll}
 use Rattle.word_states.specs.Standing.{Book}
 use Rattle.word_states.specs.Going.{Move, MayGo, GoesOn, AllAt}
-use Rattle.run_laws.specs.Running.{Counts, StandsAt, IsFront, IsOfFront, FailedAt, after_commit, after_hang, after_pass}
+use Rattle.run_laws.specs.Running.{Counts, StandsAt, IsFront, IsOfFront, FailedAt, after_commit, after_hang}
 use Rattle.run_laws.proofs.Fronts.{HasFront, front_of, none_there, all_long, all_append, front_name, IsMadeBy, next_is, other_names, ready_behind, stay_behind}
-use Rattle.run_laws.proofs.RuledFronts.{by_queue, front_ruled, front_passes, front_makes}
+use Rattle.run_laws.proofs.RuledFronts.{by_queue, front_ruled, front_makes}
 
 -- those that a test takes, and the others
 parted : (t : Process → Bool) (xs : List Process) → length (filter t xs) + length (filter (λ x. not (t x)) xs) ≡ length xs
@@ -167,32 +167,6 @@ module _ (m : Program) (limits : Limits) (from : State) (vars : ℕ) (ws rest : 
         stay_behind book g.goes.book (inside_at ws) at.state g.goes.event.after p front.process r.stands front.at_front
         (λ q z h k far. g.processes_stay q z h k (λ e. far (e ∙ f.address))) rest front.behind front.others
         (ready_behind at fits front.process front.behind front.queue) (other_names at fits front.process front.behind front.queue)
-
-    -- the front goes to the back
-    pub passes_on : c.cells < v.cells
-        → (to : Schedule) × StandsAt m limits from vars ws (rest ++ p ∷ []) (after_pass c) evs to book
-    passes_on lacks =
-        let to : Schedule = record at { queue = front.behind ++ front.process ∷ []; passed = at.passed + 1 } in (
-          to,
-          record {
-            ordered = r.ordered;
-            leads = led_on m limits (begin from []) at evs (passes to) g.goes.steps r.leads
-                (ruled_so ∙ ap Some (front_passes m limits at r.plain front.process front.behind front.queue g.goes.event
-                (omega (arith, lacks, r.cells, g.cells)))) refl;
-            plain = record { mode = r.plain.mode; controls = r.plain.controls };
-            heap = r.heap;
-            stands = r.stands;
-            queued = all_append book at.state rest (p ∷ []) front.behind (front.process ∷ []) front.others (front.at_front, tt);
-            variables = r.variables;
-            entries = r.entries;
-            moved = r.moved;
-            passed = omega (arith, r.passed);
-            asleep = r.asleep;
-            commits = r.commits;
-            moves = r.moves;
-            cells = r.cells;
-          },
-        )
 
     -- the run ends with a fail
     pub fails_there : (q : Proc) → v.entry ≡ Fail q → FailedAt m limits from (evs ++ g.goes.event ∷ []) at.state c

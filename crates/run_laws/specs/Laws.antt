@@ -11,13 +11,15 @@ use Rattle.fcp_model.specs.Events.{Event}
 use Rattle.fcp_model.specs.OneWorker.{Schedule, IsOneWorkerRun, begin}
 use Rattle.fcp_laws.specs.Endings.{outcome_at}
 use Rattle.heap_words.specs.Heaps.{IsHeap, inside_at}
+use Rattle.heap_words.specs.Trails.{WordList}
 use Rattle.heap_words.specs.declared.cell.Cell.TheVariants.{Status}
 use Rattle.heap_words.specs.declared.cell.Stand.TheVariants.{Ready}
 use Rattle.word_states.specs.Words.{Words, HasAll, At, IsIn, over}
 use Rattle.word_states.specs.Standing.{Book, StandsFor, PlaceAt}
 use Rattle.word_states.specs.Trials.{AreAt}
+use Rattle.word_states.specs.Costs.{DecidesCells}
 use Rattle.word_states.specs.Going.{Move, MayGo, GoesOn, ArePlaces, AllAt}
-use Rattle.run_laws.specs.Running.{Counts, IsFoundMove, IsPlaceInUse, IsProcessInUse, first_counts, outcome_by, StandsAt, IsFront, IsOfFront, FailedAt, BindsNew, WaitsByAge, after_commit, after_hang, after_pass}
+use Rattle.run_laws.specs.Running.{Counts, IsFoundMove, IsPlaceInUse, IsProcessInUse, first_counts, outcome_by, StandsAt, IsFront, IsOfFront, FrontCosts, FailedAt, BindsNew, WaitsByAge, after_commit, after_hang, after_pass}
 
 -- where a run stands, a move that found what it read may go
 abbrev pub AFoundMoveMayGo : Type 0
@@ -46,11 +48,17 @@ AHangLeadsOn = (m : Program) (limits : Limits) (from : State) (vars : ℕ) (ws w
     → IsFront v ws p rest c → (g : GoesOn m v book at.state (inside_at ws')) → v.entry ≡ Hang q → v.cells ≤ c.cells → IsHeap ws'
     → (to : Schedule) × StandsAt m limits from vars ws' rest (after_hang c v.cells) (evs ++ g.goes.event ∷ []) to g.goes.book
 
--- the front goes to the back where its move has more cells than are left
+-- where the run stands, the entry of the front has the cells that are decided for its process by words that were found
+abbrev pub AFrontCosts : Type 0
+AFrontCosts = (m : Program) (limits : Limits) (from : State) (vars : ℕ) (ws rest : List ℕ) (p : ℕ) (c : Counts) (evs : List Event)
+    (at : Schedule) (book : Book) (read : WordList) (needed : ℕ) → StandsAt m limits from vars ws (p ∷ rest) c evs at book
+    → HasAll read (inside_at ws) → DecidesCells m read p needed → FrontCosts m at needed
+
+-- the front goes to the back where its entry has more cells than are left
 abbrev pub APassLeadsOn : Type 0
 APassLeadsOn = (m : Program) (limits : Limits) (from : State) (vars : ℕ) (ws rest : List ℕ) (p : ℕ) (c : Counts) (evs : List Event)
-    (at : Schedule) (book : Book) (v : Move) (w' : Words) → StandsAt m limits from vars ws (p ∷ rest) c evs at book
-    → IsFront v ws p rest c → GoesOn m v book at.state w' → c.cells < v.cells
+    (at : Schedule) (book : Book) (needed : ℕ) → StandsAt m limits from vars ws (p ∷ rest) c evs at book
+    → 0 < c.commits → 0 < c.moves → c.passed < length (p ∷ rest) → FrontCosts m at needed → c.cells < needed
     → (to : Schedule) × StandsAt m limits from vars ws (rest ++ p ∷ []) (after_pass c) evs to book
 
 -- the run ends where the front fails

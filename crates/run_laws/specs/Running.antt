@@ -23,6 +23,7 @@ use Rattle.word_states.specs.Words.{At, HasAll}
 use Rattle.word_states.specs.Standing.{Book, StandsFor, PlaceAt, name_code}
 use Rattle.word_states.specs.Denoting.{Addresses}
 use Rattle.word_states.specs.Trials.{places_bound, AreAt}
+use Rattle.word_states.specs.Costs.{EntryCosts}
 use Rattle.word_states.specs.Going.{Move, Fits, AllAt}
 
 -- an open run without controls
@@ -88,6 +89,13 @@ pub record IsOfFront (m : Program) (at : Schedule) (ev : Event) (entry : Entry) 
   pub decided : Decides m at.state.bound process.goal decision
   pub is : ev ≡ event_of m at.state process decision
   pub has : ev.entry ≡ entry
+
+-- The entry that is decided for the front has so many cells.
+pub record FrontCosts (m : Program) (at : Schedule) (needed : ℕ) : Type 0 where
+  pub process : Process
+  pub behind : List Process
+  pub queue : at.queue ≡ process ∷ behind
+  pub costs : EntryCosts m at.state.bound process.goal needed
 
 -- the counts after a commit, a hang and a pass
 abbrev pub after_commit : Counts → ℕ → ℕ → Counts

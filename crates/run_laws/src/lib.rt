@@ -2,13 +2,15 @@
 //! contract is the law.
 #![tactic(auto)]
 
-ghost use Rattle.run_laws.specs.Laws.{AFoundMoveMayGo, AFoundMoveGoesOn, AnEventIsOfTheFront, ACommitLeadsOn, AHangLeadsOn, APassLeadsOn, AFailEnds, ALimitEnds, ACommitBindsNew, AHangWaitsByAge, ABeginningStands, AnOutcomeIsCounted, AFrontIsReady, PlacesAreInUse, ProcessesAreInUse};
+ghost use Rattle.run_laws.specs.Laws.{AFoundMoveMayGo, AFoundMoveGoesOn, AnEventIsOfTheFront, ACommitLeadsOn, AHangLeadsOn, AFrontCosts, APassLeadsOn, AFailEnds, ALimitEnds, ACommitBindsNew, AHangWaitsByAge, ABeginningStands, AnOutcomeIsCounted, AFrontIsReady, PlacesAreInUse, ProcessesAreInUse};
 
-/// A move of the front that found what it read may go, and its event is the one that is decided for the front.
+/// A move of the front that found what it read may go, and its event is the one that is decided for the front. Its cells can be told before
+/// it is planned.
 pub fn front_moves()
     ensures may { AFoundMoveMayGo }
     ensures goes { AFoundMoveGoesOn }
     ensures event { AnEventIsOfTheFront }
+    ensures costs { AFrontCosts }
 {}
 
 /// A commit, a hang and a pass lead to where the run stands again.

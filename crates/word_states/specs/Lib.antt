@@ -7,6 +7,7 @@ pub mod Led
 pub mod Tame
 pub mod Formed
 pub mod Trials
+pub mod Costs
 pub mod Waking
 pub mod Layouts
 pub mod Planning

@@ -4,13 +4,16 @@ use Rattle.std.specs.Prelude.{if◌then◌else◌}
 use Rattle.fcp_model.specs.declared.run.Entry.{Entry}
 use Rattle.fcp_model.specs.declared.run.Entry.TheVariants.{Commit, Hang, Fail, Snapshot, Suspend, Resume, Abort}
 use Rattle.fcp_model.specs.declared.run.Proc.{Proc}
+use Rattle.fcp_model.specs.Events.{Event}
+use Rattle.fcp_model.specs.OneWorker.{Schedule}
 use Rattle.heap_words.specs.Cells.{decoded}
 use Rattle.heap_words.specs.declared.cell.Cell.TheVariants.{Status}
 use Rattle.heap_words.specs.declared.cell.Stand.{Stand}
 use Rattle.heap_words.specs.declared.cell.Stand.TheVariants.{Ready}
 use Rattle.heap_words.specs.Heaps.{inside_at}
-use Rattle.heap_words.specs.Trails.{word_at}
-use Rattle.word_states.specs.Words.{Words, HasAll, over}
+use Rattle.heap_words.specs.Trails.{WordList, word_at}
+use Rattle.word_states.specs.Words.{Words, AreApart, HasAll, over}
+use Rattle.word_states.specs.Standing.{Book}
 use Rattle.word_states.specs.Going.{Move, GoesOn}
 use Rattle.word_states.proofs.Lists.{apart_word}
 use Rattle.word_commit.specs.declared.quota.Quota.{Quota}
@@ -24,8 +27,8 @@ use Rattle.commit_engine.specs.declared.answer.Turn.{Turn}
 use Rattle.commit_engine.specs.declared.answer.Turn.TheVariants as answer
 use Rattle.commit_engine.specs.declared.answer.Spent.TheVariants as spent
 use Rattle.commit_engine.specs.Turns.{Made, TurnSays, has_made}
-use Rattle.run_laws.specs.Laws.{AFoundMoveGoesOn, AFrontIsReady}
-use Rattle.run_laws.specs.Running.{Counts, IsFront, IsFoundMove, IsMoveBy}
+use Rattle.run_laws.specs.Laws.{AFoundMoveGoesOn, AFrontCosts, AFrontIsReady}
+use Rattle.run_laws.specs.Running.{Counts, StandsAt, IsFront, IsFoundMove, IsMoveBy}
 use Rattle.worker_crew.specs.declared.engine.Task.{Task}
 use Rattle.worker_crew.specs.declared.engine.Engine.{Engine}
 use Rattle.worker_crew.specs.Reached.{program, first_state, vars, counts_of, IsTask, IsAtRest, IsReached, HasRoom}
@@ -90,6 +93,20 @@ module _ (t : Task) (e : Engine) (h : PlainHall) (pl : Planner) (silent : IsSile
         goes = f.goes;
         lines = f.lines;
       }))
+
+  pub stands_still : (queue : List ℕ) (evs : List Event) (at : Schedule) (book : Book)
+      → StandsAt (program t) t.limits (first_state t) (vars t) e.hall.words.items queue (counts_of e) evs at book
+      → StandsAt (program t) t.limits (first_state t) (vars t) h.words.items queue (counts_of still) evs at book
+  stands_still queue evs at book s =
+      subst (λ ws. StandsAt (program t) t.limits (first_state t) (vars t) ws queue (counts_of still) evs at book) (sym silent.0)
+      (subst (λ c. StandsAt (program t) t.limits (first_state t) (vars t) e.hall.words.items queue c evs at book) counts_same s)
+
+  pub room_still : HasRoom e → HasRoom still
+  room_still r = record {
+    commits = let a = r.commits in let b = ap (λ q. q.commits) quota in omega arith;
+    moves = let a = r.moves in let b = ap (λ q. q.moves) quota in omega arith;
+    passed = r.passed;
+  }
 
 module _ (t : Task) (p : ℕ) (e : Engine) (task : IsTask t) (r : IsReached t (p ∷ []) e) (room : HasRoom e) (law : AFoundMoveGoesOn) where
   -- a move whose reads the words have is one of the front, and goes on
@@ -167,6 +184,13 @@ module _ (t : Task) (p : ℕ) (e : Engine) (task : IsTask t) (r : IsReached t (p
         length_more [] x = refl
         length_more (y ∷ xs) x = let k = length_more xs x in omega arith
 
+    -- the hall had what was found
+    has_found : (kept : WordList) → AreApart kept → ((a x : ℕ) → word_at kept a ≡ Some x → IsFound e.hall h a x)
+        → HasAll kept (inside_at e.hall.words.items)
+    has_found kept apart words a x k =
+        let f = words a x (apart_word kept a x apart k) in
+        ap (λ ws. inside_at ws a) (sym f.0.0) ∙ f.1
+
     -- a move that is planned by words that were found is one of the front
     pub planned : IsPlan t.code pl p
         → ((a x : ℕ) → word_at pl.machine.trail.kept a ≡ Some x → IsFound e.hall h a x)
@@ -176,9 +200,7 @@ module _ (t : Task) (p : ℕ) (e : Engine) (task : IsTask t) (r : IsReached t (p
         let found : IsFoundMove (program t) (move_of pl p) e.hall.words.items p = record {
           address = refl;
           fits = plan.fits (program t) task.code;
-          has = λ a x k.
-              let f = words a x (apart_word pl.machine.trail.kept a x plan.safe.reads.apart k) in
-              ap (λ ws. inside_at ws a) (sym f.0.0) ∙ f.1;
+          has = has_found pl.machine.trail.kept plan.safe.reads.apart words;
           mover = plan.named.mover;
           is_move = move_by pl.entry plan.named.mover plan.named.is_move;
           small = plan.named.small;
@@ -222,21 +244,31 @@ module _ (t : Task) (p : ℕ) (e : Engine) (task : IsTask t) (r : IsReached t (p
             rest = rest_still t e h pl s.0 quota same plain free idle r.rest;
           }
 
-      pub passes : (needed left : ℕ) → said ≡ answer.Spent (spent.Cells needed left)
+      pub passes : AFrontCosts → (needed left : ℕ) → said ≡ answer.Spent (spent.Cells needed left)
           → HasPassed t p (record e { hall = h; planner = pl })
-      passes needed left is =
+      passes law needed left is =
           let s = says_of (answer.Spent (spent.Cells needed left)) is in
           let quota = purse (ap has_made is) in
           let same = spare_of false (ap has_made is) in
+          let found : HasAll pl.machine.trail.kept (inside_at e.hall.words.items) = has_found pl.machine.trail.kept s.3.plan.reads.apart
+          s.3.words in
           record {
-            move = move_of pl p;
-            after = over ((move_of pl p).writes (e.entries + 1)) (inside_at e.hall.words.items);
-            moves_front = front_still t e h pl s.0 quota same plain free idle p (move_of pl p) _ (planned s.3.plan s.3.words);
+            reached = record {
+              events = r.events;
+              at = r.at;
+              book = r.book;
+              stands = stands_still t e h pl s.0 quota same plain free idle (p ∷ e.queue.items) r.events r.at r.book r.stands;
+              lines = r.lines;
+              rest = rest_still t e h pl s.0 quota same plain free idle r.rest;
+              few = r.few;
+            };
+            room = room_still t e h pl s.0 quota same plain free idle room;
+            needed = needed;
+            costs = law (program t) t.limits (first_state t) (vars t) e.hall.words.items e.queue.items p (counts_of e) r.events r.at r.book
+                pl.machine.trail.kept needed r.stands found (s.3.plan.costs (program t) task.code);
             large =
-                let a = s.1 in let b = s.2 in let d = s.3.cells in let f = ap (λ (q : Quota). q.cells) quota in
-                omega (arith, a, b, d, f);
-            rest = rest_still t e h pl s.0 quota same plain free idle r.rest;
-            few = r.few;
+                let a = s.1 in let b = s.2 in let f = ap (λ (q : Quota). q.cells) quota in
+                omega (arith, a, b, f);
           }
 
       -- the front is Ready

@@ -185,9 +185,10 @@ pub pass_noted : (t : Task) (p : ℕ) (e : Engine) → HasPassed t p e → APass
     → new.queue.items ≡ e.queue.items ++ p ∷ [] → new.text ≡ e.text → new.passed ≡ e.passed + 1 → new.asleep ≡ e.asleep
     → new.entries ≡ e.entries → IsReached t [] new
 pass_noted t p e m law new hall queue text passed asleep entries =
-    let s = m.moves_front in
+    let s = m.reached in
+    let some : e.passed < length (p ∷ e.queue.items) = let h = m.room.passed in omega arith in
     let led = law (program t) t.limits (first_state t) (vars t) e.hall.words.items e.queue.items p (counts_of e) s.events s.at s.book
-    m.move m.after s.stands s.is_front s.goes m.large in
+    m.needed s.stands m.room.commits m.room.moves some m.costs m.large in
     let counts : after_pass (counts_of e) ≡ counts_of new = same_counts _ _ (sym passed) (sym asleep) (sym entries)
     (ap (λ h. h.quota.commits) (sym hall)) (ap (λ h. h.quota.moves) (sym hall)) (ap (λ h. h.quota.cells) (sym hall)) in
     record {
@@ -196,8 +197,8 @@ pass_noted t p e m law new hall queue text passed asleep entries =
       book = s.book;
       stands = stands_same t _ _ _ _ _ _ _ led.0 s.book led.1 (ap (λ h. h.words.items) (sym hall)) (sym queue) counts;
       lines = subst (λ x. Adds log_head x.items (λ n. event_lines n t.names.now s.events)) (sym text) s.lines;
-      rest = subst (IsAtRest new.hall) (sym entries) (subst (λ h. IsAtRest h e.entries) (sym hall) m.rest);
-      few = omega (arith, asleep, entries, m.few);
+      rest = subst (IsAtRest new.hall) (sym entries) (subst (λ h. IsAtRest h e.entries) (sym hall) s.rest);
+      few = omega (arith, asleep, entries, s.few);
     }
 
 -- a process was put at the back of a queue, since the put did not fail

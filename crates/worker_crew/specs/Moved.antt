@@ -13,12 +13,12 @@ use Rattle.word_states.specs.Going.{Move, GoesOn}
 use Rattle.commit_engine.specs.Halls.{commits_of, moves_of}
 use Rattle.commit_engine.specs.Turns.{TellsMove}
 use Rattle.entry_lines.specs.Additions.{Adds}
-use Rattle.run_laws.specs.Running.{Counts, StandsAt, IsFront}
+use Rattle.run_laws.specs.Running.{Counts, StandsAt, IsFront, FrontCosts}
 use Rattle.worker_crew.specs.declared.engine.Task.{Task}
 use Rattle.worker_crew.specs.declared.engine.Engine.{Engine}
 use Rattle.worker_crew.specs.declared.engine.Ruled.{Ruled}
 use Rattle.worker_crew.specs.declared.engine.Ruled.TheVariants as ruled
-use Rattle.worker_crew.specs.Reached.{program, first_state, vars, counts_of, IsAtRest, IsReached, HasRunOut, HasEnded}
+use Rattle.worker_crew.specs.Reached.{program, first_state, vars, counts_of, IsAtRest, IsReached, HasRoom, HasRunOut, HasEnded}
 
 -- The run stood at words and counts, where this process was the front of the queue and a move of it goes on in other words. The engine's
 -- queue has the others, and its text is that of the entries before.
@@ -60,14 +60,13 @@ pub record HasFailed (t : Task) (e : Engine) : Type 0 where
   pub fails : (q : Proc) × (e.planner.entry ≡ Fail q)
   pub rest : IsAtRest e.hall e.entries
 
--- the front has a move with more cells than are left
+-- The entry of the front has more cells than are left. Nothing of it was planned.
 pub record HasPassed (t : Task) (front : ℕ) (e : Engine) : Type 0 where
-  pub move : Move
-  pub after : Words
-  pub moves_front : MovesFront t e e.hall.words.items (counts_of e) front move after
-  pub large : e.hall.quota.cells < move.cells
-  pub rest : IsAtRest e.hall e.entries
-  pub few : e.asleep ≤ e.entries
+  pub reached : IsReached t (front ∷ []) e
+  pub room : HasRoom e
+  pub needed : ℕ
+  pub costs : FrontCosts (program t) reached.at needed
+  pub large : e.hall.quota.cells < needed
 
 -- how many moves are left
 abbrev pub moves_left : Engine → ℕ

@@ -24,26 +24,11 @@ const MOST_PAGES: u32 = 3_906_250;
 /// More entries than there are moves have room in the log.
 const SPARE: u32 = 64;
 
-/// The cells of the largest commit by a clause of the task's module.
-fn largest_commit(task: &Task) -> u32 {
-    let mut largest = 0;
-    for procedure in 0..task.loaded.procedures() {
-        for clause in 1..u32::MAX {
-            let Some(cells) = task.code.cells(procedure, clause) else {
-                break;
-            };
-            largest = largest.max(cells);
-        }
-    }
-    largest
-}
-
-/// The pages in which a goal and so many cells of entries have room, and beside them the words of one entry more: a move is planned before
-/// its cells are compared with those that are left.
-fn pages_for(cells: u32, goal: &GoalText, entry: u32) -> u32
+/// The pages in which a goal and so many cells of entries have room. A move of more cells than are left is not planned.
+fn pages_for(cells: u32, goal: &GoalText) -> u32
     requires { length goal.now.names ≤ 250 }
 {
-    let all = cells as u64 + goal_cells(goal) as u64 + entry as u64;
+    let all = cells as u64 + goal_cells(goal) as u64;
     ((all + PAGE_CELLS - 1) / PAGE_CELLS + 1) as u32
 }
 
@@ -52,7 +37,7 @@ fn first_words(alloc: Global, task: &Task) -> Result<Vec<u64>, NoMemory>
     requires { IsTask task.now }
     ensures { IfOk result (λ ws. AreFirstWords task.now ws.items) }
 {
-    let pages = pages_for(task.limits.cells, task.goal.goal(), largest_commit(task));
+    let pages = pages_for(task.limits.cells, task.goal.goal());
     if pages > MOST_PAGES {
         return Err(NoMemory);
     }

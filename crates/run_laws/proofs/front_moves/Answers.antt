@@ -1,5 +1,6 @@
 -- The laws, proved beside the definitions.
 use Rattle.run_laws.proofs.FoundMoves.{goes_on}
+use Rattle.run_laws.proofs.Passing.{front_costs}
 use Rattle.run_laws.proofs.Steps.{may_go, of_front}
 use Rattle.run_laws.proofs.front_moves.Goals as goal
 
@@ -13,3 +14,7 @@ returns-clause-event c = λ m limits from vars ws rest p c evs at book v w' r f 
 
 pub returns-clause-goes : goal.returns-clause-goes
 returns-clause-goes c = goes_on
+
+pub returns-clause-costs : goal.returns-clause-costs
+returns-clause-costs c = λ m limits from vars ws rest p c evs at book read needed r has decides.
+    front_costs m limits from vars ws rest p c evs at book r read needed has decides

@@ -1,28 +1,13 @@
-use Rattle.std.proofs.Common.{ap, sym, subst, refl, arith}
+use Rattle.std.proofs.Common.{sym, subst, refl}
 use Rattle.heap_words.specs.Trails.{WordList}
 use Rattle.word_states.specs.Words.{Among}
-use Rattle.word_commit.specs.declared.quota.Quota.{Quota}
 use Rattle.commit_engine.proofs.Turning.{paid_by, made_says, made_left}
 use Rattle.commit_engine.proofs.turns.finish.Goals as goal
 
-pub returns-then-left-needed-clause-says : goal.returns-then-left-needed-clause-says
-returns-then-left-needed-clause-says g c = (
-  g.met.H.Hall.hall_laws.later_silent c.args.hall.now c.args.hall.now c.requires.sound
-      (g.met.H.Words.laws.still c.args.hall.now c.requires.sound),
-  ap (λ (q : Quota). q.cells) (sym c.quota-left.ensures),
-  c.if-left-needed.true,
-  refl,
-  refl,
-)
-
-pub returns-then-left-needed-clause-rest : goal.returns-then-left-needed-clause-rest
-returns-then-left-needed-clause-rest g c = record { one = λ h. refl; same_purse = λ h. refl; same_pages = refl; room = refl }
-
 pub make_prepared-requires-clause-paid : goal.make_prepared-requires-clause-paid
 make_prepared-requires-clause-paid g c =
-    let q = ap (λ (v : Quota). v.cells) c.quota-left.ensures in
     paid_by (g.H.Hall.purse c.args.hall.now) c.in-Some.prepared.entry c.args.planner.now c.args.process c.in-Some.ensures.carried
-    c.requires.kind c.requires.quota (omega (arith, q, c.if-left-needed.false))
+    c.requires.kind c.requires.quota c.requires.cells
 
 pub make_prepared-requires-clause-entry : goal.make_prepared-requires-clause-entry
 make_prepared-requires-clause-entry g c = c.in-Some.ensures.is_entry
@@ -37,24 +22,22 @@ make_prepared-requires-clause-same g c = λ al w a x y h f.
 
 pub returns-in-Some-clause-says : goal.returns-in-Some-clause-says
 returns-in-Some-clause-says g c =
-    let q = ap (λ (v : Quota). v.cells) c.quota-left.ensures in
     let h = g.H.Hall.purse c.args.hall.now in
     made_says g.H.Hall.page_count g.H.Hall.due g.H.Hall.purse g.H.Hall.spare g.H.Hall.takes g.H.Hall.silent g.H.Hall.found g.H.Hall.added
     g.H.Hall.alone c.args.hall.now c.make_prepared.new.hall c.args.planner.now c.prepare.new.planner c.args.process c.in-Some.prepared
     c.in-Some.ensures
     (paid_by h c.in-Some.prepared.entry c.args.planner.now c.args.process c.in-Some.ensures.carried c.requires.kind c.requires.quota
-    (omega (arith, q, c.if-left-needed.false)))
+    c.requires.cells)
     c.requires.kind c.make_prepared.result c.make_prepared.ensures.says
 
 pub returns-in-Some-clause-rest : goal.returns-in-Some-clause-rest
 returns-in-Some-clause-rest g c =
-    let q = ap (λ (v : Quota). v.cells) c.quota-left.ensures in
     let h = g.H.Hall.purse c.args.hall.now in
     made_left g.H.Hall.page_count g.H.Hall.due g.H.Hall.purse g.H.Hall.spare g.H.Hall.takes g.H.Hall.silent g.H.Hall.found g.H.Hall.added
     g.H.Hall.alone c.args.hall.now c.make_prepared.new.hall c.args.planner.now c.prepare.new.planner c.args.process c.in-Some.prepared
     c.in-Some.ensures
     (paid_by h c.in-Some.prepared.entry c.args.planner.now c.args.process c.in-Some.ensures.carried c.requires.kind c.requires.quota
-    (omega (arith, q, c.if-left-needed.false)))
+    c.requires.cells)
     c.requires.kind c.make_prepared.result c.make_prepared.ensures.says
 
 pub returns-in-None-clause-says : goal.returns-in-None-clause-says

@@ -1,7 +1,8 @@
-use Rattle.std.proofs.Common.{◌∙◌, subst}
+use Rattle.std.proofs.Common.{ap, ◌∙◌, subst}
+use Rattle.word_commit.specs.declared.quota.Quota.{Quota}
 use Rattle.move_plans.specs.declared.planner.Planned.{Planned}
 use Rattle.move_plans.specs.Plans.{PlanSays}
-use Rattle.commit_engine.proofs.Turning.{read_had, read_same, finish_turn, left_after}
+use Rattle.commit_engine.proofs.Turning.{read_had, read_same, enough_still, large_turn, finish_turn, left_after}
 use Rattle.commit_engine.proofs.turns.go_on.Goals as goal
 
 pub returns-in_default-clause-free : goal.returns-in_default-clause-free
@@ -28,23 +29,49 @@ pub returns-in-Full-clause-free : goal.returns-in-Full-clause-free
 returns-in-Full-clause-free g c = λ q.
     g.met.H.Hall.hall_laws.later_holds c.args.hall.now c.plan.new.words q c.plan.ensures.between ∙ c.requires.free q
 
+pub returns-in-Large-clause-free : goal.returns-in-Large-clause-free
+returns-in-Large-clause-free g c = λ q.
+    g.met.H.Hall.hall_laws.later_holds c.args.hall.now c.plan.new.words q c.plan.ensures.between ∙ c.requires.free q
+
+pub returns-in-Large-clause-says : goal.returns-in-Large-clause-says
+returns-in-Large-clause-says g c =
+    let says = subst (λ (d : Planned). PlanSays c.args.code.now c.plan.new.self c.args.process c.quota-left.result.cells d) c.in-Large.is
+    c.in-Ok.ensures.says in
+    large_turn g.met.H.Words.laws g.met.H.Hall.hall_laws c.args.code.now c.args.hall.now c.plan.new.words c.plan.new.self c.args.process
+    c.in-Large.cells c.quota-left.result.cells c.requires.sound c.plan.ensures.between c.in-Ok.ensures.loaded says.0
+    (ap (λ (q : Quota). q.cells) c.quota-left.ensures) says.1
+
+pub finish-requires-clause-cells : goal.finish-requires-clause-cells
+finish-requires-clause-cells g c =
+    let says = subst (λ (d : Planned). PlanSays c.args.code.now c.plan.new.self c.args.process c.quota-left.result.cells d)
+    c.in-Commits.is c.in-Ok.ensures.says in
+    enough_still g.met.H.Words.laws g.met.H.Hall.hall_laws c.args.hall.now c.plan.new.words c.plan.new.self.cells
+    c.quota-left.result.cells c.plan.ensures.between (ap (λ (q : Quota). q.cells) c.quota-left.ensures) says.2
+
+pub finish-requires-in-Hangs-clause-cells : goal.finish-requires-in-Hangs-clause-cells
+finish-requires-in-Hangs-clause-cells g c =
+    let says = subst (λ (d : Planned). PlanSays c.args.code.now c.plan.new.self c.args.process c.quota-left.result.cells d)
+    c.in-Hangs.is c.in-Ok.ensures.says in
+    enough_still g.met.H.Words.laws g.met.H.Hall.hall_laws c.args.hall.now c.plan.new.words c.plan.new.self.cells
+    c.quota-left.result.cells c.plan.ensures.between (ap (λ (q : Quota). q.cells) c.quota-left.ensures) says.2
+
 pub finish-requires-clause-had : goal.finish-requires-clause-had
 finish-requires-clause-had g c =
-    let says = subst (λ (d : Planned). PlanSays c.args.code.now c.plan.new.self c.args.process d) c.in-Commits.is c.in-Ok.ensures.says in
+    let says = subst (λ (d : Planned). PlanSays c.args.code.now c.plan.new.self c.args.process c.quota-left.result.cells d) c.in-Commits.is c.in-Ok.ensures.says in
     let plan = says.0 in
     read_had g.met.H.Words.laws g.met.H.Hall.hall_laws c.args.hall.now c.plan.new.words c.plan.new.self c.args.process
     c.in-Ok.ensures.loaded plan.safe
 
 pub finish-requires-clause-same : goal.finish-requires-clause-same
 finish-requires-clause-same g c =
-    let says = subst (λ (d : Planned). PlanSays c.args.code.now c.plan.new.self c.args.process d) c.in-Commits.is c.in-Ok.ensures.says in
+    let says = subst (λ (d : Planned). PlanSays c.args.code.now c.plan.new.self c.args.process c.quota-left.result.cells d) c.in-Commits.is c.in-Ok.ensures.says in
     let plan = says.0 in
     read_same g.met.H.Words.laws g.met.H.Hall.hall_laws c.args.hall.now c.plan.new.words c.plan.new.self c.args.process c.requires.sound
     c.in-Ok.ensures.loaded plan.safe
 
 pub returns-in-Commits-clause-says : goal.returns-in-Commits-clause-says
 returns-in-Commits-clause-says g c =
-    let says = subst (λ (d : Planned). PlanSays c.args.code.now c.plan.new.self c.args.process d) c.in-Commits.is c.in-Ok.ensures.says in
+    let says = subst (λ (d : Planned). PlanSays c.args.code.now c.plan.new.self c.args.process c.quota-left.result.cells d) c.in-Commits.is c.in-Ok.ensures.says in
     let plan = says.0 in
     finish_turn g.met.H.Words.laws g.met.H.Hall.hall_laws c.args.code.now c.args.hall.now c.plan.new.words c.finish.new.hall
     c.plan.new.self c.finish.new.planner c.args.process c.requires.sound c.plan.ensures.between c.in-Ok.ensures.loaded plan
@@ -57,21 +84,21 @@ returns-in-Commits-clause-rest g c =
 
 pub finish-requires-in-Hangs-clause-had : goal.finish-requires-in-Hangs-clause-had
 finish-requires-in-Hangs-clause-had g c =
-    let says = subst (λ (d : Planned). PlanSays c.args.code.now c.plan.new.self c.args.process d) c.in-Hangs.is c.in-Ok.ensures.says in
+    let says = subst (λ (d : Planned). PlanSays c.args.code.now c.plan.new.self c.args.process c.quota-left.result.cells d) c.in-Hangs.is c.in-Ok.ensures.says in
     let plan = says.0 in
     read_had g.met.H.Words.laws g.met.H.Hall.hall_laws c.args.hall.now c.plan.new.words c.plan.new.self c.args.process
     c.in-Ok.ensures.loaded plan.safe
 
 pub finish-requires-in-Hangs-clause-same : goal.finish-requires-in-Hangs-clause-same
 finish-requires-in-Hangs-clause-same g c =
-    let says = subst (λ (d : Planned). PlanSays c.args.code.now c.plan.new.self c.args.process d) c.in-Hangs.is c.in-Ok.ensures.says in
+    let says = subst (λ (d : Planned). PlanSays c.args.code.now c.plan.new.self c.args.process c.quota-left.result.cells d) c.in-Hangs.is c.in-Ok.ensures.says in
     let plan = says.0 in
     read_same g.met.H.Words.laws g.met.H.Hall.hall_laws c.args.hall.now c.plan.new.words c.plan.new.self c.args.process c.requires.sound
     c.in-Ok.ensures.loaded plan.safe
 
 pub returns-in-Hangs-clause-says : goal.returns-in-Hangs-clause-says
 returns-in-Hangs-clause-says g c =
-    let says = subst (λ (d : Planned). PlanSays c.args.code.now c.plan.new.self c.args.process d) c.in-Hangs.is c.in-Ok.ensures.says in
+    let says = subst (λ (d : Planned). PlanSays c.args.code.now c.plan.new.self c.args.process c.quota-left.result.cells d) c.in-Hangs.is c.in-Ok.ensures.says in
     let plan = says.0 in
     finish_turn g.met.H.Words.laws g.met.H.Hall.hall_laws c.args.code.now c.args.hall.now c.plan.new.words c.finish-in-Hangs.new.hall
     c.plan.new.self c.finish-in-Hangs.new.planner c.args.process c.requires.sound c.plan.ensures.between c.in-Ok.ensures.loaded plan

@@ -6,47 +6,27 @@ use Rattle.trial_machine.proofs.Loading.{loads_on}
 use Rattle.move_plans.proofs.Laying.{lays_commit}
 use Rattle.move_plans.proofs.Pieces.{sizes_is}
 use Rattle.move_plans.proofs.Reading.{are_reads}
-use Rattle.move_plans.proofs.Rereading.{place_more}
 use Rattle.move_plans.proofs.planner.Planner.lay_commit.Goals as goal
 
 pub find_woken-requires-clause-opened : goal.find_woken-requires-clause-opened
 find_woken-requires-clause-opened g c a x h =
-    place_more c.args.self.now.machine.trail.kept c.load_cells.new.trail.kept c.in_ok-cells.ensures.loaded.grows
-    c.requires.commit.reads a
-    (c.requires.commit.opened a x (subst (λ (bs : WordList). Among bs (a, x)) c.as_slice-binds.ensures.value h))
+    c.requires.commit.opened a x (subst (λ (bs : WordList). Among bs (a, x)) c.as_slice-binds.ensures.value h)
 
-pub returns-then-laid-clause-loaded : goal.returns-then-laid-clause-loaded
-returns-then-laid-clause-loaded g c =
-    loads_on g.met.W.Words.laws c.args.self.now.machine.trail.kept c.load_cells.new.trail.kept c.find_room.new.trail.kept
-    c.args.words.now c.load_cells.new.words c.find_room.new.words c.load_cells.ensures.between
-    (g.met.W.Words.laws.twice c.load_cells.new.words c.find_woken.new.words c.find_room.new.words c.find_woken.ensures.between
-    c.find_room.ensures.between)
-    c.in_ok-cells.ensures.loaded
-    (loads_on g.met.W.Words.laws c.load_cells.new.trail.kept c.find_woken.new.trail.kept c.find_room.new.trail.kept
-    c.load_cells.new.words c.find_woken.new.words c.find_room.new.words c.find_woken.ensures.between c.find_room.ensures.between
-    c.in_ok-find_woken.ensures.loaded c.in_ok-laid.ensures.loaded)
+pub returns-clause-loaded : goal.returns-clause-loaded
+returns-clause-loaded g c =
+    loads_on g.met.W.Words.laws c.args.self.now.machine.trail.kept c.find_woken.new.trail.kept c.find_room.new.trail.kept
+    c.args.words.now c.find_woken.new.words c.find_room.new.words c.find_woken.ensures.between c.find_room.ensures.between
+    c.in_ok-find_woken.ensures.loaded c.in_ok-laid.ensures.loaded
 
-pub returns-else-laid-clause-loaded : goal.returns-else-laid-clause-loaded
-returns-else-laid-clause-loaded g c =
-    loads_on g.met.W.Words.laws c.args.self.now.machine.trail.kept c.load_cells.new.trail.kept c.find_room.new.trail.kept
-    c.args.words.now c.load_cells.new.words c.find_room.new.words c.load_cells.ensures.between
-    (g.met.W.Words.laws.twice c.load_cells.new.words c.find_woken.new.words c.find_room.new.words c.find_woken.ensures.between
-    c.find_room.ensures.between)
-    c.in_ok-cells.ensures.loaded
-    (loads_on g.met.W.Words.laws c.load_cells.new.trail.kept c.find_woken.new.trail.kept c.find_room.new.trail.kept
-    c.load_cells.new.words c.find_woken.new.words c.find_room.new.words c.find_woken.ensures.between c.find_room.ensures.between
-    c.in_ok-find_woken.ensures.loaded c.in_ok-laid.ensures.loaded)
-
-pub returns-then-laid-clause-lays : goal.returns-then-laid-clause-lays
-returns-then-laid-clause-lays g c =
-    lays_commit c.args.code.now c.args.self.now.machine.trail.kept c.load_cells.new.trail.kept c.find_woken.new.trail.kept _
-    c.args.process c.in_ok-cells.cells c.sizes.result.now c.in_ok-cells.ensures.loaded.grows c.in_ok-find_woken.ensures.loaded.grows
-    c.in_ok-laid.ensures.loaded.grows
+pub returns-clause-lays : goal.returns-clause-lays
+returns-clause-lays g c t =
+    lays_commit c.args.self.now.machine.trail.kept c.find_woken.new.trail.kept _ c.args.process c.sizes.result.now
+    c.in_ok-find_woken.ensures.loaded.grows c.in_ok-laid.ensures.loaded.grows
     (are_reads g.met.W.Words.laws c.find_room.new.trail.kept c.find_room.new.words c.in_ok-laid.ensures.loaded.stored
     c.once.ensures.kept)
-    c.requires.commit c.in_ok-cells.ensures.cells
+    c.requires.commit
     (subst (λ (bs : WordList). KeptWakes c.find_woken.new.trail.kept (addresses_of bs) c.find_woken.new.woken.items)
     c.as_slice-binds.ensures.value c.in_ok-find_woken.ensures.wakes)
     (c.in_ok-find_woken.ensures.bound ∙ ap addresses_of c.as_slice-binds.ensures.value)
     (sizes_is c.args.self.now.machine.desk.pieces c.sizes.result.now c.sizes.ensures.cuts c.sizes.ensures.whole)
-    (c.in_ok-laid.ensures.room c.if-laid.true)
+    (c.in_ok-laid.ensures.room t)

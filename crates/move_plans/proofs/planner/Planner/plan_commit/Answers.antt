@@ -1,18 +1,16 @@
-use Rattle.move_plans.specs.Stages.{LaysCommit}
-use Rattle.move_plans.proofs.Planning.{commit_says}
+use Rattle.trial_machine.proofs.Loading.{loads_on}
+use Rattle.move_plans.proofs.Large.{large_commit}
 use Rattle.move_plans.proofs.planner.Planner.plan_commit.Goals as goal
 
-pub put_commit_move-requires-clause-planned : goal.put_commit_move-requires-clause-planned
-put_commit_move-requires-clause-planned g c =
-    let laid : LaysCommit c.args.code.now c.args.self.now.machine.trail.kept c.lay_commit.new.self c.args.process c.in-Some.cells =
-    rw c.in-Some.is at c.in_ok-cells.ensures.lays in
-    laid.planned c.args.name c.requires.mover
+pub returns-then-cells-left-clause-says : goal.returns-then-cells-left-clause-says
+returns-then-cells-left-clause-says g c = (
+  large_commit c.args.code.now c.read_cells.new.self c.args.process c.args.name c.in_ok-cells.cells c.in_ok-cells.ensures.mover
+      c.in_ok-cells.ensures.decided c.in_ok-cells.ensures.cells,
+  c.if-cells-left.true,
+)
 
-pub returns-clause-says : goal.returns-clause-says
-returns-clause-says g c =
-    let laid : LaysCommit c.args.code.now c.args.self.now.machine.trail.kept c.lay_commit.new.self c.args.process c.in-Some.cells =
-    rw c.in-Some.is at c.in_ok-cells.ensures.lays in
-    commit_says c.fits.ensures.commit c.safe.ensures.commit c.args.code.now c.args.self.now c.lay_commit.new.self
-    c.put_commit_move.new.self c.args.process c.args.name c.in-Some.cells c.requires.mover c.requires.decided
-    c.in_ok-cells.ensures.loaded.grows c.in_ok-cells.ensures.hands laid c.in_ok-put_commit_move.ensures.moves
-    c.in_ok-put_commit_move.ensures.cells
+pub returns-clause-loaded : goal.returns-clause-loaded
+returns-clause-loaded g c =
+    loads_on g.met.W.Words.laws c.args.self.now.machine.trail.kept c.read_cells.new.self.machine.trail.kept
+    c.plan_small_commit.new.self.machine.trail.kept c.args.words.now c.read_cells.new.words c.plan_small_commit.new.words
+    c.read_cells.ensures.between c.plan_small_commit.ensures.between c.in_ok-cells.ensures.loaded c.in_ok-planned.ensures.loaded

@@ -25,7 +25,7 @@ pub pass-requires : goal.pass-requires
 pass-requires c =
     passes c.args.task.now c.args.process c.args.self.now c.requires.task c.requires.reached c.requires.room c.front_moves.ensures.goes
     c.turn.new.hall c.turn.new.planner c.turn.result c.turn.ensures.says c.turn.ensures.purse c.turn.ensures.spare c.turn.ensures.sound
-    c.turn.ensures.free c.turn.ensures.idle c.in-Spent-Cells.field-0-0 c.in-Spent-Cells.field-0-1
+    c.turn.ensures.free c.turn.ensures.idle c.front_moves.ensures.costs c.in-Spent-Cells.field-0-0 c.in-Spent-Cells.field-0-1
     (c.in-Spent-Cells.is ∙ ap answer.Spent c.in-Spent-Cells.field-0-is)
 
 pub unreachable-requires-in-Gone : goal.unreachable-requires-in-Gone
