@@ -1,5 +1,5 @@
 -- The text of the value of a place is the one that the definitions give.
-use Rattle.std.proofs.Common.{◌≡◌, ℕ, ◌<◌, true, List, [], Some, sym, ap, ◌∙◌, subst}
+use Rattle.std.proofs.Common.{◌≡◌, ℕ, ◌<◌, ◌≤◌, true, List, [], Some, sym, ap, ◌∙◌, subst, arith}
 use Rattle.std.specs.Prelude.{pos}
 use Rattle.fcp_model.specs.declared.run.Place.{Place}
 use Rattle.fcp_model.specs.Places.{Variable, made, own, place}
@@ -18,7 +18,11 @@ use Rattle.unify_terms.proofs.NamesOfPlaces.{place_listed, once_place}
 use Rattle.unify_terms.proofs.PlacesOfTries.{state_says}
 use Rattle.unify_terms.proofs.TermsOfWords.{stands_seen}
 use Rattle.word_texts.specs.Shown.{Labels, IsShown}
-use Rattle.entry_lines.specs.Additions.{Adds}
+use Rattle.fcp_model.proofs.MoreSteps.{at_least}
+use Rattle.fcp_laws.proofs.MoreTextSteps.{cut_more}
+use Rattle.word_states.proofs.Leading.{leads_here}
+use Rattle.leading_texts.proofs.Texts.{texts_alike}
+use Rattle.entry_lines.specs.Additions.{Adds, Gives}
 use Rattle.entry_lines.proofs.Agreeing.{in_memory}
 
 -- the place that a variable is
@@ -43,13 +47,22 @@ module _ (u : Words) (book : Book) (s : State) (stands : StandsFor book u s) whe
           → (j : Place) × ((naming book.places).name a ≡ made j) × (j.number < 268435456)
       is_made a p = stands.says.is_made _ a (place_listed book.places a p)
 
+  -- a text that comes over the shorter bindings comes over those of the state
+  comes : (names : List Bytes) (nodes : ℕ) (j : Place) (x : Bytes) → Gives (λ n. cut_text n names stands.short nodes (var (made j))) x
+      → Gives (λ n. cut_text n names s.bound nodes (var (made j))) x
+  comes names nodes j x g =
+      let m = texts_alike names s.bound stands.short nodes (var (made j)) (var (made j)) g.0 x stands.shortened
+      (leads_here s.bound (var (made j))) (g.1 g.0 (omega arith)) in
+      (m.0, λ k l. at_least _ (cut_more names s.bound nodes (var (made j))) m.0 k l x m.1)
+
   pub value_adds : (binds : WordList) (names : List Bytes) (nodes word a : ℕ) (old new : Bytes) (j : Place) → binds ≡ []
       → decoded word ≡ Some (Ref a) → PlaceAt book j a → IsShown (memory_of u) binds names nodes word old new
       → Adds old new (λ n. cut_text n names s.bound nodes (var (made j)))
   value_adds binds names nodes word a old new j free e at shown =
-      let seen : Stands (naming book.places) (memory_of u) [] s.bound =
-      stands_seen (memory_of u) u book.places stands.says.once (in_memory u) [] s.bound (state_says u book.places s.bound stands.says) in
-      let r = shown (naming book.places) labels s.bound (var (made j))
-      (subst (λ (bs : WordList). Stands (naming book.places) (memory_of u) bs s.bound) (sym free) seen)
+      let seen : Stands (naming book.places) (memory_of u) [] stands.short =
+      stands_seen (memory_of u) u book.places stands.says.once (in_memory u) [] stands.short
+      (state_says u book.places stands.short stands.says) in
+      let r = shown (naming book.places) labels stands.short (var (made j))
+      (subst (λ (bs : WordList). Stands (naming book.places) (memory_of u) bs stands.short) (sym free) seen)
       (a, e, once_place (memory_of u) book.places stands.says.once (made j) a at) in
-      record { added = r.text; behind = r.appended; given = (r.steps, r.cut) }
+      record { added = r.text; behind = r.appended; given = comes names nodes j r.text (r.steps, r.cut) }

@@ -56,7 +56,7 @@ string_text_more f g a b h i (Some l) o' j missing = λ x e. rw (j l refl) (go (
 
 module _ (names : List Bytes) (s : Bindings) where
   -- parts have no text in steps that do not find the first one's value
-  no_parts : (n left : ℕ) (t u : Term Variable) (us : Terms Variable) → value n s t ≡ None
+  pub no_parts : (n left : ℕ) (t u : Term Variable) (us : Terms Variable) → value n s t ≡ None
       → parts_text n names s (suc left) t (more u us) ≡ None
   no_parts zero left t u us e = refl
   no_parts (suc zero) left t u us e = refl

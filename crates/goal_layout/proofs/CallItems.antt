@@ -1,32 +1,35 @@
 -- A process with its arguments is the process of an item.
 use Rattle.std.proofs.Common.{◌≡◌, ℕ, zero, suc, ◌+◌, ◌<◌, ◌≤◌, pos, Bool, true, false, cond, List, [], ◌∷◌, ◌++◌, length, map, Option}
-use Rattle.std.proofs.Common.{Some, refl, sym, ap, ◌∙◌, subst, arith}
+use Rattle.std.proofs.Common.{Some, refl, sym, ap, ◌∙◌, subst, arith, append_assoc}
 use Rattle.std.specs.Prelude.{IfSome, nat_eq, nat_lt, position, ◌&&◌}
 use Rattle.std.specs.List.{position_or_len}
 use Rattle.std.proofs.lemmas.Bool.{and_from, eq-eqb, ne_eqb, ltb-true}
 use Rattle.std.proofs.lemmas.List.{length-map}
 use Rattle.std.proofs.lemmas.Option.{cond_some, IfSome_then, same_Some}
-use Rattle.fcp_model.specs.declared.goal.TheConstants.{TRUE_PROCEDURE}
+use Rattle.fcp_model.specs.declared.goal.TheConstants.{TRUE_PROCEDURE, UNIFY_PROCEDURE, ASSIGN_PROCEDURE}
 use Rattle.fcp_model.specs.declared.names.Sym.{Sym}
 use Rattle.fcp_model.specs.declared.loaded.ProcedureName.{ProcedureName}
 use Rattle.fcp_model.specs.declared.source.Call.{Call}
-use Rattle.fcp_model.specs.declared.source.Call.TheVariants.{User}
+use Rattle.fcp_model.specs.declared.source.Call.TheVariants.{User, Unify, Assign}
 use Rattle.fcp_model.specs.declared.source.Module.{Module}
 use Rattle.fcp_model.specs.declared.term.Term as source
+use Rattle.fcp_model.specs.declared.term.Expr as source_expr
 use Rattle.fcp_model.specs.ProcedureNames.{procedure_names, same_procedure}
 use Rattle.fcp_model.specs.Goals.{number_of_call}
 use Rattle.fcp_model.specs.Terms.{Term}
-use Rattle.fcp_model.specs.Programs.{Goal, user, true'}
-use Rattle.fcp_model.specs.Translation.{name_with_arity, term_of, user_goal}
-use Rattle.fcp_model.specs.ClosedPrograms.{AllOver, GoalOver, IsNumbered}
+use Rattle.fcp_model.specs.Programs.{Goal, user, true', unifies, assigns}
+use Rattle.fcp_model.specs.Translation.{name_with_arity, term_of, expr_of, user_goal}
+use Rattle.fcp_model.specs.ClosedPrograms.{Over, AllOver, ExprOver, GoalOver, IsNumbered}
 use Rattle.heap_words.specs.Heaps.{inside_at}
 use Rattle.heap_words.specs.declared.cell.Cell.TheVariants.{Small, Raw}
+use Rattle.word_states.specs.Words.{At}
 use Rattle.word_states.specs.Denoting.{GoalSays}
+use Rattle.word_states.proofs.Leading.{goal_leads_here}
 use Rattle.goal_layout.specs.FirstFit.{first_fit}
-use Rattle.goal_layout.specs.PieceSizes.{all_sizes, goal_sizes}
+use Rattle.goal_layout.specs.PieceSizes.{all_sizes, goal_sizes, term_sizes, expr_sizes}
 use Rattle.goal_layout.specs.Pages.{rooms}
 use Rattle.goal_layout.specs.Laying.{places_of, settled_term}
-use Rattle.goal_layout.specs.Items.{IsNumberIn, LaysHeaded, LaysCall, LaysItem, called, settled_goal}
+use Rattle.goal_layout.specs.Items.{IsNumberIn, LaysHeaded, LaysCall, LaysUnify, LaysAssign, LaysItem, called, settled_goal}
 
 -- a head, and what the words after it say
 pub headed_item : (vars : ℕ) (sizes : List ℕ) (g : Goal ℕ) (k f p : ℕ) (xs ws ws' : List ℕ)
@@ -43,7 +46,7 @@ headed_item vars sizes g k f p xs ws ws' h e says = record {
   process = record {
     status = h.status;
     name = (h.name.0, h.name.1, h.name.2 ∙ ap (λ n. Some (Small (pos n))) (omega arith));
-    goal = says;
+    goal = record { goal = settled_goal g; leads = goal_leads_here [] (settled_goal g); says = says };
   };
 }
 
@@ -140,3 +143,46 @@ user_laid m call name args args' o f k vars ws ws' e ea is laid over =
 
     size : length (map term_of args') ≡ length args
     size = length-map args' term_of ∙ ap length ea
+
+-- the two sides of `=` and its process are an item
+pub unify_laid : (m : Module) (call : Call) (left right : source.Term) (o : Option ℕ) (f k vars : ℕ) (ws ws' : List ℕ)
+    → call ≡ Unify left right → IsNumberIn m call f
+    → ((n : ℕ) → Over (IsNumbered n) (term_of left) → Over (IsNumbered n) (term_of right)
+    → IfSome o (λ p. LaysUnify n (term_of left) (term_of right) f k p ws ws'))
+    → GoalOver (IsNumbered vars) (called m call) → IfSome o (λ p. LaysItem vars (called m call) k p ws ws')
+unify_laid m call left right o f k vars ws ws' e is laid over =
+    let shape : called m call ≡ unifies (term_of left) (term_of right) = ap (called m) e in
+    let both = subst (GoalOver (IsNumbered vars)) shape over in
+    IfSome_then o (laid vars both.0 both.1) (λ p l. subst (λ g. LaysItem vars g k p ws ws') (sym shape)
+    (headed_item vars (term_sizes (term_of left) ++ term_sizes (term_of right)) (unifies (term_of left) (term_of right)) k f p _ ws ws' l.headed
+    (append_assoc (term_sizes (term_of left)) (term_sizes (term_of right)) (6 ∷ [])) (
+      procedure_is p f UNIFY_PROCEDURE (same_Some f UNIFY_PROCEDURE (sym is.number ∙ ap (number_of_call m) e)) l.headed.procedure,
+      l.headed.count,
+      l.args,
+    )))
+  where
+    procedure_is : (p g h : ℕ) → g ≡ h → At (inside_at ws') (p + 2) (Raw g) → At (inside_at ws') (p + 2) (Raw h)
+    procedure_is p g h i a = subst (λ j. At (inside_at ws') (p + 2) (Raw j)) i a
+
+-- and so are those of `:=`
+pub assign_laid : (m : Module) (call : Call) (left : source.Term) (right : source_expr.Expr) (o : Option ℕ) (f k vars : ℕ) (ws ws' : List ℕ)
+    → call ≡ Assign left right → IsNumberIn m call f
+    → ((n : ℕ) → Over (IsNumbered n) (term_of left) → ExprOver (IsNumbered n) (expr_of right)
+    → IfSome o (λ p. LaysAssign n (term_of left) (expr_of right) f k p ws ws'))
+    → GoalOver (IsNumbered vars) (called m call) → IfSome o (λ p. LaysItem vars (called m call) k p ws ws')
+assign_laid m call left right o f k vars ws ws' e is laid over =
+    let shape : called m call ≡ assigns (term_of left) (expr_of right) = ap (called m) e in
+    let both = subst (GoalOver (IsNumbered vars)) shape over in
+    IfSome_then o (laid vars both.0 both.1) (λ p l. subst (λ g. LaysItem vars g k p ws ws') (sym shape)
+    (headed_item vars (term_sizes (term_of left) ++ expr_sizes (expr_of right)) (assigns (term_of left) (expr_of right)) k f p _ ws ws' l.headed
+    (append_assoc (term_sizes (term_of left)) (expr_sizes (expr_of right)) (6 ∷ [])) (
+      procedure_is p f ASSIGN_PROCEDURE (same_Some f ASSIGN_PROCEDURE (sym is.number ∙ ap (number_of_call m) e)) l.headed.procedure,
+      l.headed.count,
+      (l.first, l.second, l.headed.stand.0, l.left, second_at p l.second l.headed.stand.1.0, l.right),
+    )))
+  where
+    procedure_is : (p g h : ℕ) → g ≡ h → At (inside_at ws') (p + 2) (Raw g) → At (inside_at ws') (p + 2) (Raw h)
+    procedure_is p g h i a = subst (λ j. At (inside_at ws') (p + 2) (Raw j)) i a
+
+    second_at : (p x : ℕ) → inside_at ws' (suc (p + 4)) ≡ Some x → inside_at ws' (p + 5) ≡ Some x
+    second_at p x i = subst (λ a. inside_at ws' a ≡ Some x) (omega arith) i

@@ -13,16 +13,16 @@ use Rattle.goal_layout.specs.Items.{new_process, settled_goal}
 -- processes are at these addresses, numbered from k on
 abbrev pub AreAt : Words → Addresses → ℕ → List ℕ → List (Goal ℕ) → Type 0
 AreAt w vs k [] [] = Unit {0}
-AreAt w vs k (p ∷ ps) (g ∷ gs) = ProcessSays w vs 0 p (new_process k g) × AreAt w vs (suc k) ps gs
+AreAt w vs k (p ∷ ps) (g ∷ gs) = ProcessSays w vs [] 0 p (new_process k g) × AreAt w vs (suc k) ps gs
 AreAt w vs k _ _ = ⊥
 
 pub are_more : (w : Words) (vs : Addresses) (k p : ℕ) (g : Goal ℕ) (ps : List ℕ) (gs : List (Goal ℕ)) → AreAt w vs k ps gs
-    → ProcessSays w vs 0 p (new_process (k + length ps) g) → AreAt w vs k (ps ++ p ∷ []) (gs ++ g ∷ [])
-are_more w vs k p g [] [] h s = (subst (λ j. ProcessSays w vs 0 p (new_process j g)) (omega arith) s, tt)
+    → ProcessSays w vs [] 0 p (new_process (k + length ps) g) → AreAt w vs k (ps ++ p ∷ []) (gs ++ g ∷ [])
+are_more w vs k p g [] [] h s = (subst (λ j. ProcessSays w vs [] 0 p (new_process j g)) (omega arith) s, tt)
 are_more w vs k p g [] (u ∷ gs) h s = absurd h
 are_more w vs k p g (q ∷ ps) [] h s = absurd h
 are_more w vs k p g (q ∷ ps) (u ∷ gs) h s =
-    (h.0, are_more w vs (suc k) p g ps gs h.1 (subst (λ j. ProcessSays w vs 0 p (new_process j g)) (omega arith) s))
+    (h.0, are_more w vs (suc k) p g ps gs h.1 (subst (λ j. ProcessSays w vs [] 0 p (new_process j g)) (omega arith) s))
 
 pub are_count : (w : Words) (vs : Addresses) (k : ℕ) (ps : List ℕ) (gs : List (Goal ℕ)) → AreAt w vs k ps gs → length ps ≡ length gs
 are_count w vs k [] [] h = refl
@@ -36,11 +36,11 @@ count_processes n k (g ∷ gs) = ap suc (count_processes n (suc k) gs)
 
 -- the process at one of the addresses
 pub one_of : (w : Words) (vs : Addresses) (k : ℕ) (ps : List ℕ) (gs : List (Goal ℕ)) (p : ℕ) → AreAt w vs k ps gs → IsIn p ps
-    → (j : ℕ) × (g : Goal ℕ) × ProcessSays w vs 0 p (new_process j g)
+    → (j : ℕ) × (g : Goal ℕ) × ProcessSays w vs [] 0 p (new_process j g)
 one_of w vs k [] [] p h i = absurd i
 one_of w vs k [] (u ∷ gs) p h i = absurd h
 one_of w vs k (q ∷ ps) [] p h i = absurd h
-one_of w vs k (q ∷ ps) (u ∷ gs) p h (inl e) = (k, u, subst (λ a. ProcessSays w vs 0 a (new_process k u)) e h.0)
+one_of w vs k (q ∷ ps) (u ∷ gs) p h (inl e) = (k, u, subst (λ a. ProcessSays w vs [] 0 a (new_process k u)) e h.0)
 one_of w vs k (q ∷ ps) (u ∷ gs) p h (inr i) = one_of w vs (suc k) ps gs p h.1 i
 
 -- a process that stands at an address, by its position
@@ -74,11 +74,11 @@ stands_is k (q ∷ ps) (g ∷ gs) p x (inr h) =
 
 -- what it says
 pub stands_says : (w : Words) (vs : Addresses) (k : ℕ) (ps : List ℕ) (gs : List (Goal ℕ)) (p : ℕ) (x : Process) → AreAt w vs k ps gs
-    → StandsAt ps (processes_of 0 k (map settled_goal gs)) p x → ProcessSays w vs 0 p x
+    → StandsAt ps (processes_of 0 k (map settled_goal gs)) p x → ProcessSays w vs [] 0 p x
 stands_says w vs k [] gs p x h s = absurd s
 stands_says w vs k (q ∷ ps) [] p x h s = absurd s
 stands_says w vs k (q ∷ ps) (u ∷ gs) p x h (inl s) =
-    subst (λ a. ProcessSays w vs 0 a x) s.0 (subst (λ y. ProcessSays w vs 0 q y) s.1 h.0)
+    subst (λ a. ProcessSays w vs [] 0 a x) s.0 (subst (λ y. ProcessSays w vs [] 0 q y) s.1 h.0)
 stands_says w vs k (q ∷ ps) (u ∷ gs) p x h (inr s) = stands_says w vs (suc k) ps gs p x h.1 s
 
 -- each of the addresses has a process

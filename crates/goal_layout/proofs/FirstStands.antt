@@ -61,14 +61,14 @@ module _ (vars : ℕ) (few : vars ≤ 250) (gs : List (Goal ℕ)) (n : ℕ) (bas
   told p y k n t e d = let c : cell.Raw k ≡ cell.Raw n = one_cell w (p + 3) (cell.Raw k) (cell.Raw n) t (y, e, d) in cc
 
   -- the words of a process after its name
-  goal_behind : (p : ℕ) (g : Goal ℕ) → GoalSays w vs p (settled_goal g)
+  goal_behind : (p : ℕ) (g : Goal Variable) → GoalSays w vs p g
       → (is_inside ws (p + 2) ≡ true) × (is_inside ws (p + 3) ≡ true)
       × ((y n b : ℕ) → inside_at ws (p + 3) ≡ Some y → decoded y ≡ Some (cell.Raw n) → p + 3 < b → b ≤ p + 3 + n → is_inside ws b ≡ true)
   goal_behind p (user f ts) h = (
     at_known (p + 2) _ h.0,
     at_known (p + 3) _ h.1,
-    λ y n b e d lo hi. argument_known ws vs (p + 4) b (map settled_term ts) h.2 (omega arith)
-        (omega (arith, told p y (length (map settled_term ts)) n h.1 e d)),
+    λ y n b e d lo hi. argument_known ws vs (p + 4) b ts h.2 (omega arith)
+        (omega (arith, told p y (length ts) n h.1 e d)),
   )
   goal_behind p true' h = (
     at_known (p + 2) _ h.0,
@@ -78,7 +78,7 @@ module _ (vars : ℕ) (few : vars ≤ 250) (gs : List (Goal ℕ)) (n : ℕ) (bas
   goal_behind p (unifies t u) h = (
     at_known (p + 2) _ h.0,
     at_known (p + 3) _ h.1,
-    λ y n b e d lo hi. argument_known ws vs (p + 4) b (settled_term t ∷ settled_term u ∷ []) h.2 (omega arith)
+    λ y n b e d lo hi. argument_known ws vs (p + 4) b (t ∷ u ∷ []) h.2 (omega arith)
         (omega (arith, told p y 2 n h.1 e d)),
   )
   goal_behind p (assigns t u) h = (
@@ -108,7 +108,7 @@ module _ (vars : ℕ) (few : vars ≤ 250) (gs : List (Goal ℕ)) (n : ℕ) (bas
         );
     behind = λ p b i lo hi.
         let o = one_of w vs 1 procs gs p each i in
-        let g = goal_behind p o.1 o.2.goal in ⊎_elim
+        let g = goal_behind p o.2.goal.goal o.2.goal.says in ⊎_elim
         (λ e. subst (λ k. is_inside ws k ≡ true) (sym e) (at_known (p + 1) _ o.2.name))
         (λ d1. ⊎_elim
         (λ e. subst (λ k. is_inside ws k ≡ true) (sym e) g.0)
@@ -117,7 +117,7 @@ module _ (vars : ℕ) (few : vars ≤ 250) (gs : List (Goal ℕ)) (n : ℕ) (bas
         (cases_eq b (p + 1));
     arguments = λ p y k b i e d lo hi.
         let o = one_of w vs 1 procs gs p each i in
-        let g = goal_behind p o.1 o.2.goal in
+        let g = goal_behind p o.2.goal.goal o.2.goal.says in
         g.2 y k b e d lo hi;
   }
 
@@ -176,6 +176,8 @@ module _ (vars : ℕ) (few : vars ≤ 250) (gs : List (Goal ℕ)) (n : ℕ) (bas
               let at : i.position ≡ j.position = one_position procs i.position j.position q s.distinct (i.address ∙ ap Some e) j.address in
               same_Some x y (sym i.process ∙ ap (slice_get qs) at ∙ j.process)),
         );
+    short = [];
+    shortened = tt;
     says = record {
       is_made = λ v a l. let r = place_says v a l in let hi = r.2 in (place 0 r.0, r.3, omega (arith, hi, few));
       name = λ v a l.
@@ -198,6 +200,7 @@ module _ (vars : ℕ) (few : vars ≤ 250) (gs : List (Goal ℕ)) (n : ℕ) (bas
           );
     };
     own_free = λ k. refl;
+    own_absent = λ v t n e. cc;
     process = λ p x h. stands_says w vs 1 procs gs p x each h;
     statuses = λ a d t. in_stands procs qs a counts (laid_status ws vs procs are_laid a t.0 d t.1 t.2);
     lists = λ j a e l t. ([], unbound_zero j a e l t);

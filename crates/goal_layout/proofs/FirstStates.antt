@@ -24,7 +24,8 @@ use Rattle.goal_layout.specs.Laying.{places_of}
 use Rattle.goal_layout.specs.Items.{LaysItem, new_process}
 use Rattle.goal_layout.specs.Goals.{LaysPlaces}
 use Rattle.goal_layout.proofs.Lays.{first_fit-append, top_word, final_off, kept_word, said_on}
-use Rattle.word_states.proofs.Persisting.{at_on, process_on}
+use Rattle.word_states.proofs.Persisting.{at_on}
+use Rattle.word_states.proofs.Leading.{process_on}
 use Rattle.goal_layout.proofs.Heaping.{Sort}
 use Rattle.goal_layout.proofs.FirstProcesses.{AreAt, are_more, are_count, one_of, in_left, in_last, in_either, distinct_more}
 
@@ -97,7 +98,7 @@ module _ (vars : ℕ) (few : vars ≤ 250) (gs : List (Goal ℕ)) (n : ℕ) (bas
     processes_on k (q ∷ ps) [] h = absurd h
     processes_on k (q ∷ ps) (u ∷ us) h =
         let st = h.0.status in (
-          process_on (inside_at ws) (inside_at ws') vs vs 0 0 q (new_process k u) (new_process k u) grows (λ v a m. m) h.0 refl refl
+          process_on [] [] (inside_at ws) (inside_at ws') vs vs 0 0 q (new_process k u) (new_process k u) (λ v t e. e) grows (λ v a m. m) h.0 refl refl
               (st.0, kept_word ws ws' q st.0 (l.kept q (inside_known ws q st.0 st.1) (status_off q st.0 stand.Ready st.1 st.2)) st.1, st.2),
           processes_on (suc k) ps us h.1,
         )
@@ -121,7 +122,7 @@ module _ (vars : ℕ) (few : vars ≤ 250) (gs : List (Goal ℕ)) (n : ℕ) (bas
           kept_word ws ws' (2 * k) 0 (l.kept (2 * k) (inside_known ws (2 * k) 0 e) (λ m. omega (arith, m, lo, hi, few))) e;
       each = subst (AreAt (inside_at ws') vs 1 more) (sym (take_more gs n g lt ∙ ap (λ u. take n gs ++ u ∷ []) (sym (is g))))
           (are_more (inside_at ws') vs 1 p g procs (take n gs) (processes_on 1 procs (take n gs) s.each)
-          (subst (λ k. ProcessSays (inside_at ws') vs 0 p (new_process k g)) (omega (arith, count)) l.process));
+          (subst (λ k. ProcessSays (inside_at ws') vs [] 0 p (new_process k g)) (omega (arith, count)) l.process));
       distinct = distinct_more p procs s.distinct (λ i. false≢true (sym l.free ∙ s.known p i));
       known = λ q i. ⊎_elim
           (λ j. let k = s.known q j in (l.kept q k (proc_off q j)).0)

@@ -114,4 +114,4 @@ pub record LaysItem (vars : ℕ) (g : Goal ℕ) (k p : ℕ) (ws ws' : List ℕ) 
   pub free : is_inside ws p ≡ false
   pub said : (a x : ℕ) → inside_at ws' a ≡ Some x
       → (inside_at ws a ≡ Some x) ⊎ (IsSaid (inside_at ws') (places_of vars) x ⊎ ((a ≡ p) × (decoded x ≡ Some (Status Ready))))
-  pub process : ProcessSays (inside_at ws') (places_of vars) 0 p (new_process k g)
+  pub process : ProcessSays (inside_at ws') (places_of vars) [] 0 p (new_process k g)

@@ -1,7 +1,9 @@
 -- What the entry of the front costs, and that the front goes to the back where that is too much.
 use Rattle.std.proofs.Common.{◌≡◌, ℕ, ◌+◌, ◌<◌, List, [], ◌∷◌, ◌++◌, length, Some, refl, ap, ◌∙◌, subst, arith}
 use Rattle.fcp_model.specs.declared.run.Limits.{Limits}
-use Rattle.fcp_model.specs.Programs.{Program}
+use Rattle.fcp_model.specs.Places.{Variable, own}
+use Rattle.fcp_model.specs.Terms.{Bindings}
+use Rattle.fcp_model.specs.Programs.{Goal, Program}
 use Rattle.fcp_model.specs.Decisions.{Decision, commits, decides_fail, waits_on}
 use Rattle.fcp_model.specs.Cells.{cells}
 use Rattle.fcp_model.specs.States.{Process, State}
@@ -13,7 +15,11 @@ use Rattle.heap_words.specs.Trails.{WordList}
 use Rattle.word_states.specs.Words.{HasAll}
 use Rattle.word_states.specs.Standing.{Book}
 use Rattle.word_states.specs.Trials.{IsTried}
-use Rattle.word_states.specs.Costs.{DecidesCells}
+use Rattle.word_states.specs.Costs.{EntryCosts, DecidesCells}
+use Rattle.word_states.specs.Leading.{GoalLeads, AreShortened}
+use Rattle.word_states.proofs.Leading.{open_short}
+use Rattle.leading_laws.specs.Laws.{AlikeDecision}
+use Rattle.leading_laws.proofs.Decisions.{goals_decide_alike, cells_are_alike}
 use Rattle.word_states.specs.Going.{AllAt}
 use Rattle.word_states.proofs.Lists.{word_among}
 use Rattle.word_state_laws.proofs.Forming.{heap_low, heap_old}
@@ -27,25 +33,41 @@ event_cells m s x (commits k bs rs) = refl
 event_cells m s x (waits_on rs) = refl
 event_cells m s x (decides_fail rs) = refl
 
+-- what the entry of a goal costs over bindings with shorter ways, that of each goal which leads to it costs over the bindings themselves
+costs_long : (m : Program) (s short : Bindings) (g h : Goal Variable) (needed : ℕ) → AreShortened s short → GoalLeads s g h
+    → EntryCosts m short h needed → EntryCosts m s g needed
+costs_long m s short g h needed shortened leads e = go e.decision (goals_decide_alike m s short g h e.decision shortened leads e.decided) e.costs
+  where
+    go : (d : Decision) → AlikeDecision m s g d → cells m h d ≡ needed → EntryCosts m s g needed
+    go (commits k cs rs) a i = record {
+      decision = commits k a.0 rs;
+      decided = a.1;
+      costs = cells_are_alike m s g h (commits k a.0 rs) leads ∙ i;
+    }
+    go (waits_on rs) a i = record { decision = waits_on rs; decided = a; costs = cells_are_alike m s g h (waits_on rs) leads ∙ i }
+    go (decides_fail rs) a i = record { decision = decides_fail rs; decided = a; costs = cells_are_alike m s g h (decides_fail rs) leads ∙ i }
+
 module _ (m : Program) (limits : Limits) (from : State) (vars : ℕ) (ws rest : List ℕ) (p : ℕ) (c : Counts) (evs : List Event)
     (at : Schedule) (book : Book) (r : StandsAt m limits from vars ws (p ∷ rest) c evs at book) where
   -- by words that were found
   pub front_costs : (read : WordList) (needed : ℕ) → HasAll read (inside_at ws) → DecidesCells m read p needed → FrontCosts m at needed
   front_costs read needed has decides =
       let front : HasFront book at.state p rest at.queue = front_of book at.state p rest at.queue r.queued in
-      let tried : IsTried read p (inside_at ws) book.places at.state.bound front.process.goal = record {
+      let goal = (r.stands.process p front.process front.at_front).goal in
+      let tried : IsTried read p (inside_at ws) book.places r.stands.short goal.goal = record {
         has = λ a x e. has a x (word_among read a x e);
         low = heap_low ws r.heap;
         old = heap_old ws r.heap;
         says = r.stands.says;
-        own_free = r.stands.own_free;
-        goal = (r.stands.process p front.process front.at_front).goal;
+        own_free = λ k. open_short at.state.bound at.state.bound r.stands.short (own k) r.stands.shortened (r.stands.own_free k);
+        goal = goal.says;
       } in
       record {
         process = front.process;
         behind = front.behind;
         queue = front.queue;
-        costs = decides (inside_at ws) book.places at.state.bound front.process.goal tried;
+        costs = costs_long m at.state.bound r.stands.short front.process.goal goal.goal needed r.stands.shortened goal.leads
+            (decides (inside_at ws) book.places r.stands.short goal.goal tried);
       }
 
   pub passes_on : (needed : ℕ) → 0 < c.commits → 0 < c.moves → c.passed < length (p ∷ rest) → FrontCosts m at needed

@@ -4,22 +4,27 @@ use Rattle.std.proofs.Common.{ap, ◌∙◌, Option, subst, ⊎_elim, arith, Som
 use Rattle.std.specs.Prelude.{slice_get, nat_eq, unwrap_or}
 use Rattle.std.proofs.lemmas.Option.{same_Some}
 use Rattle.fcp_model.specs.declared.goal.TheConstants.{TRUE_PROCEDURE, UNIFY_PROCEDURE, ASSIGN_PROCEDURE}
-use Rattle.heap_words.specs.Cells.{decoded, encoded}
+use Rattle.heap_words.specs.Cells.{decoded, encoded, is_final_word}
 use Rattle.heap_words.specs.Refers.{parts}
-use Rattle.heap_words.specs.Trails.{WordList}
-use Rattle.heap_words.specs.declared.cell.Cell.TheVariants.{Unbound, Small, Wide, Cons, Tuple, Status, Raw}
+use Rattle.heap_words.specs.Trails.{WordList, word_at}
+use Rattle.heap_words.specs.declared.cell.Cell.{Cell}
+use Rattle.heap_words.specs.declared.cell.Cell.TheVariants.{Unbound, Ref, RoRef, Small, Wide, Str, Nil, Cons, Tuple, Status, Raw, Top}
 use Rattle.heap_words.specs.declared.cell.Stand.TheVariants.{Ready}
-use Rattle.heap_words.proofs.Encodings.{decoded_encoded}
+use Rattle.heap_words.proofs.Encodings.{decoded_encoded, encoded_decoded}
 use Rattle.ro_unify.specs.Occurs.{count_of}
-use Rattle.ro_unify.specs.Walks.{Node, place, part, count, address, Goes}
+use Rattle.ro_unify.specs.Value.{leads_on}
+use Rattle.ro_unify.specs.Walks.{Node, place, part, count, address, node_word, IsPlaceOf, Goes, Edge}
 use Rattle.ro_unify.proofs.Seeing.{nil_goes}
 use Rattle.word_states.specs.Denoting.{operator_code}
 use Rattle.word_states.specs.Pieces.{is_place}
-use Rattle.word_states.proofs.Pieces.{rows_in, not_zero, not_place, nine_is, zero_is, raw_final}
+use Rattle.word_states.specs.Words.{first_of}
+use Rattle.word_states.proofs.Pieces.{rows_in, rows_above, not_zero, not_place, nine_is, zero_is, raw_final}
 use Rattle.machine_code.specs.Fresh.{Tops, top_of}
 use Rattle.trial_laws.specs.AtHand.{AtHand, term_word}
 use Rattle.trial_laws.specs.NewPieces.{next_piece, with_piece, term_words, process_piece, true_piece, unify_piece, assign_piece}
+use Rattle.trial_laws.specs.NewPieces.{taken, marked_word, marked, passed_in, passed, passed_words}
 use Rattle.trial_laws.specs.Leading.{IsLedOn}
+use Rattle.trial_laws.proofs.Passing.{only_final_is}
 use Rattle.trial_laws.proofs.Pieces.{starts_last}
 use Rattle.trial_laws.proofs.LedPieces.{parts_few, parts_many, operator_small, words_length, slot_leads}
 use Rattle.trial_laws.proofs.LedLaws.{led_pair, led_tuple, led_operation, led_wide, led_child}
@@ -61,6 +66,92 @@ module _ (kept : WordList) (r : AtHand) (τ : Tops) (q : ℕ) (s : IsSafe kept r
   lead_terms i zero k l = lead_none k
   lead_terms i (suc n) k l =
       lead_more (term_word r i) k (term_words r (suc i) n) (from_term i k (omega (arith, l))) (lead_terms (suc i) n k (omega (arith, l)))
+
+  -- from what a place took a walk goes on as from the place
+  from_taken : (a y k : ℕ) → s.topped.high a ≤ max k q → taken r a ≡ Some y → Leads y k
+  from_taken a y k l e b g =
+      let edge : Edge r.binds (seen kept r) (place a) b =
+      subst (λ (z : ℕ). Goes (seen kept r) z b) (sym (there (word_at r.binds a) refl found.0)) g in
+      let climbs : s.topped.high (address b) ≤ max (s.topped.high a) q = s.topped.climbs (place a) b edge in
+      (s.tame.within (place a) b edge, omega (arith, l, climbs))
+    where
+      found : (first_of (word_at r.binds a) (own_words r.pieces a) ≡ Some y) × (is_final_word y ≡ true)
+      found = only_final_is (first_of (word_at r.binds a) (own_words r.pieces a)) y e
+
+      there : (o : Option ℕ) → word_at r.binds a ≡ o → first_of (word_at r.binds a) (own_words r.pieces a) ≡ Some y
+          → node_word r.binds (seen kept r) (place a) ≡ y
+      there (Some z) i f =
+          let same : Some z ≡ Some y = sym (ap (λ (o : Option ℕ). first_of o (own_words r.pieces a)) i) ∙ f in
+          ap (λ (o : Option ℕ). unwrap_or o (seen kept r a)) (i ∙ same)
+      there None i f =
+          let own : own_words r.pieces a ≡ Some y = sym (ap (λ (o : Option ℕ). first_of o (own_words r.pieces a)) i) ∙ f in
+          ap (λ (o : Option ℕ). unwrap_or o (seen kept r a)) i
+          ∙ ap (λ (o : Option ℕ). unwrap_or o 6)
+          (seen_own kept r.pieces s.below a (rows_above 4000000000 a y r.pieces own) ∙ own)
+
+  -- and a mark changes nothing of it
+  from_marked : (y k : ℕ) → Leads y k → Leads (marked_word y (decoded y)) k
+  from_marked y k h = go (decoded y) refl
+    where
+      read_only : (c : ℕ) → decoded y ≡ Some (Ref c) → decoded (encoded (RoRef c)) ≡ Some (RoRef c)
+      read_only c e = decoded_encoded (RoRef c) (encoded_decoded y (Ref c) e).0
+
+      behind : (c : ℕ) → decoded y ≡ Some (Ref c) → (b : Node) → From (seen kept r) (Some (RoRef c)) b → Goes (seen kept r) y b
+      behind c e (place d) g = subst (λ (o : Option Cell). IsPlaceOf (leads_on false o) d) (sym e) g
+      behind c e (part d) g = absurd g
+      behind c e (count d) g = absurd g
+
+      go : (o : Option Cell) → decoded y ≡ o → Leads (marked_word y o) k
+      go (Some (Ref c)) e =
+          λ b g. h b (behind c e b (goes_from (seen kept r) (encoded (RoRef c)) (RoRef c) b (read_only c e) g))
+      go None e = h
+      go (Some (Unbound c)) e = h
+      go (Some (RoRef c)) e = h
+      go (Some (Small z)) e = h
+      go (Some (Wide c z)) e = h
+      go (Some (Str n)) e = h
+      go (Some Nil) e = h
+      go (Some (Cons c)) e = h
+      go (Some (Tuple c)) e = h
+      go (Some (Status d)) e = h
+      go (Some (Raw n)) e = h
+      go (Some (Top n)) e = h
+
+  from_passed : (x k : ℕ) → Leads x k → Leads (passed r x) k
+  from_passed x k h = go (decoded x) refl
+    where
+      at_place : (a : ℕ) (c : Cell) → decoded x ≡ Some c → IsPlaceOf (leads_on false (Some c)) a → s.topped.high a ≤ max k q
+      at_place a c e l = (h (place a) (subst (λ (o : Option Cell). IsPlaceOf (leads_on false o) a) (sym e) l)).1
+
+      plain : (a : ℕ) (o : Option ℕ) → s.topped.high a ≤ max k q → taken r a ≡ o → Leads (unwrap_or o x) k
+      plain a None l e = h
+      plain a (Some y) l e = from_taken a y k l e
+
+      read_only : (a : ℕ) (o : Option ℕ) → s.topped.high a ≤ max k q → taken r a ≡ o → Leads (marked x o) k
+      read_only a None l e = h
+      read_only a (Some y) l e = from_marked y k (from_taken a y k l e)
+
+      go : (o : Option Cell) → decoded x ≡ o → Leads (passed_in (taken r) x o) k
+      go (Some (Ref a)) e = plain a (taken r a) (at_place a (Ref a) e refl) refl
+      go (Some (RoRef a)) e = read_only a (taken r a) (at_place a (RoRef a) e refl) refl
+      go None e = h
+      go (Some (Unbound c)) e = h
+      go (Some (Small z)) e = h
+      go (Some (Wide c z)) e = h
+      go (Some (Str n)) e = h
+      go (Some Nil) e = h
+      go (Some (Cons c)) e = h
+      go (Some (Tuple c)) e = h
+      go (Some (Status d)) e = h
+      go (Some (Raw n)) e = h
+      go (Some (Top n)) e = h
+
+  -- so each word that a child takes for a slot's
+  lead_passed : (i n k : ℕ) → top_of τ i n ≤ k → AllLead (passed_words r i n) k
+  lead_passed i zero k l = lead_none k
+  lead_passed i (suc n) k l =
+      lead_more (passed r (term_word r i)) k (passed_words r (suc i) n)
+      (from_passed (term_word r i) k (from_term i k (omega (arith, l)))) (lead_passed (suc i) n k (omega (arith, l)))
 
   -- the first word of a new piece
   first_word : (x : ℕ) (xs : List ℕ) → seen kept (with_piece r (x ∷ xs)) (next_piece r) ≡ x
@@ -185,6 +276,10 @@ safe_process kept r τ q s f k xs lf lx words led =
     (from_raw kept r τ q s (encoded (Raw (length xs))) (length xs) k (decoded_encoded (Raw (length xs)) lx)) words))))
     led
 
+passed_length : (r : AtHand) (i n : ℕ) → length (passed_words r i n) ≡ n
+passed_length r i zero = refl
+passed_length r i (suc n) = ap suc (passed_length r (suc i) n)
+
 pub safe_child : SafeChild
 safe_child kept r τ q s p i n l few room =
     go (nat_eq p TRUE_PROCEDURE) (nat_eq p UNIFY_PROCEDURE) (nat_eq p ASSIGN_PROCEDURE) (led_child kept r s.led p i n l few room)
@@ -196,30 +291,32 @@ safe_child kept r τ q s p i n l few room =
     equals zero led = truth led
     equals (suc zero) led = truth led
     equals (suc (suc n)) led =
-        safe_process kept r τ q s UNIFY_PROCEDURE (top_of τ i 2) (term_word r i ∷ term_word r (suc i) ∷ []) (omega arith) (omega arith)
-        (lead_terms kept r τ q s i 2 (top_of τ i 2) (omega arith)) led
+        safe_process kept r τ q s UNIFY_PROCEDURE (top_of τ i 2) (passed_words r i 2) (omega arith) (omega arith)
+        (lead_passed kept r τ q s i 2 (top_of τ i 2) (omega arith)) led
 
     assigns : (n : ℕ) → IsLedOn kept (with_piece r (assign_piece r i n)) → IsSafe kept (with_piece r (assign_piece r i n)) τ q
     assigns zero led = truth led
     assigns (suc zero) led = truth led
     assigns (suc (suc n)) led =
-        safe_process kept r τ q s ASSIGN_PROCEDURE (top_of τ i 2) (term_word r i ∷ r.slots (suc i) ∷ []) (omega arith) (omega arith)
-        (lead_more kept r τ q s (term_word r i) (top_of τ i 2) (r.slots (suc i) ∷ [])
-        (from_term kept r τ q s i (top_of τ i 2) (omega arith))
-        (lead_more kept r τ q s (r.slots (suc i)) (top_of τ i 2) []
-        (from_slot kept r τ q s (suc i) (top_of τ i 2) (omega arith)) (lead_none kept r τ q s (top_of τ i 2)))) led
+        safe_process kept r τ q s ASSIGN_PROCEDURE (top_of τ i 2) (passed r (term_word r i) ∷ passed r (r.slots (suc i)) ∷ [])
+        (omega arith) (omega arith)
+        (lead_more kept r τ q s (passed r (term_word r i)) (top_of τ i 2) (passed r (r.slots (suc i)) ∷ [])
+        (from_passed kept r τ q s (term_word r i) (top_of τ i 2) (from_term kept r τ q s i (top_of τ i 2) (omega arith)))
+        (lead_more kept r τ q s (passed r (r.slots (suc i))) (top_of τ i 2) []
+        (from_passed kept r τ q s (r.slots (suc i)) (top_of τ i 2) (from_slot kept r τ q s (suc i) (top_of τ i 2) (omega arith)))
+        (lead_none kept r τ q s (top_of τ i 2)))) led
 
-    user : IsLedOn kept (with_piece r (process_piece p (term_words r i n)))
-        → IsSafe kept (with_piece r (process_piece p (term_words r i n))) τ q
+    user : IsLedOn kept (with_piece r (process_piece p (passed_words r i n)))
+        → IsSafe kept (with_piece r (process_piece p (passed_words r i n))) τ q
     user led =
-        safe_process kept r τ q s p (top_of τ i n) (term_words r i n) (omega arith)
-        (subst (λ (k : ℕ). k < 0x100000000) (sym (words_length r i n)) few) (lead_terms kept r τ q s i n (top_of τ i n) (omega arith)) led
+        safe_process kept r τ q s p (top_of τ i n) (passed_words r i n) (omega arith)
+        (subst (λ (k : ℕ). k < 0x100000000) (sym (passed_length r i n)) few) (lead_passed kept r τ q s i n (top_of τ i n) (omega arith)) led
 
     go : (a b c : Bool)
         → IsLedOn kept (with_piece r
-        (cond a true_piece (cond b (unify_piece r i n) (cond c (assign_piece r i n) (process_piece p (term_words r i n))))))
+        (cond a true_piece (cond b (unify_piece r i n) (cond c (assign_piece r i n) (process_piece p (passed_words r i n))))))
         → IsSafe kept (with_piece r
-        (cond a true_piece (cond b (unify_piece r i n) (cond c (assign_piece r i n) (process_piece p (term_words r i n)))))) τ q
+        (cond a true_piece (cond b (unify_piece r i n) (cond c (assign_piece r i n) (process_piece p (passed_words r i n)))))) τ q
     go true b c led = truth led
     go false true c led = equals n led
     go false false true led = assigns n led

@@ -39,11 +39,12 @@ on_way : (m : Program) (bound : Bindings) (g : Goal Variable) (ops : List Op) (a
 on_way m bound g ops args start at t u h gives d k = h d (gives d k)
 
 -- goals at addresses are as many
-as_many : (u : Words) (us : Addresses) (qs : List ℕ) (gs : List (Goal Variable)) → GoalsSay u us qs gs → length qs ≡ length gs
-as_many u us [] [] h = refl
-as_many u us (q ∷ qs) (g ∷ gs) h = ap suc (as_many u us qs gs h.1)
-as_many u us [] (g ∷ gs) h = absurd h
-as_many u us (q ∷ qs) [] h = absurd h
+as_many : (u : Words) (us : Addresses) (bs : Bindings) (qs : List ℕ) (gs : List (Goal Variable)) → GoalsSay u us bs qs gs
+    → length qs ≡ length gs
+as_many u us bs [] [] h = refl
+as_many u us bs (q ∷ qs) (g ∷ gs) h = ap suc (as_many u us bs qs gs h.1)
+as_many u us bs [] (g ∷ gs) h = absurd h
+as_many u us bs (q ∷ qs) [] h = absurd h
 
 no_raw : (x n : ℕ) → decoded x ≡ Some (Raw n) → x ≡ 9 → ⊥
 no_raw x n d e = let k : Some (Raw n) ≡ Some (Status Ready) = sym d ∙ (ap decoded e ∙ nine_is) in cc
@@ -82,7 +83,7 @@ few_goals m w vs bound g ops args at r t s formed e source few =
     let k = source (record { decision = commits t.clause t.bound (t.earlier ++ t.read); children = t.children })
     (1, ap (λ o. obey (follow 0 bound ops args) 0 bound args at t o) e) in
     let p = processes_few 4000000000 r.pieces formed.each in
-    let l = as_many (with_own r.pieces w) (with_variables r.pieces vs) (process_words 4000000000 r.pieces) t.children s.children in
+    let l = as_many (with_own r.pieces w) (with_variables r.pieces vs) t.bound (process_words 4000000000 r.pieces) t.children s.children in
     let b : length t.children ≡ length (body_of (clause_used m g r.clause)) =
     of_decision k.0 (ap (λ d. d.children) k.2) (ap (λ d. d.decision) k.2) in
     omega (arith, few, p, l, b)

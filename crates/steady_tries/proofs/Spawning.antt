@@ -10,7 +10,7 @@ use Rattle.machine_code.specs.Instructions.{GetFirst, Spawn}
 use Rattle.machine_code.proofs.Fresh.{fresh_here}
 use Rattle.trial_laws.specs.AtHand.{AtHand, term_word}
 use Rattle.trial_laws.specs.Laws.{IsFilled}
-use Rattle.trial_laws.specs.NewPieces.{with_piece, term_words, true_piece, process_piece, unify_piece, assign_piece, child_piece}
+use Rattle.trial_laws.specs.NewPieces.{with_piece, passed_words, true_piece, process_piece, unify_piece, assign_piece, child_piece}
 use Rattle.trial_laws.proofs.Pieces.{places_left}
 use Rattle.trial_laws.proofs.SpawnLaws.{spawn_leads}
 use Rattle.trial_laws.proofs.FirstLaws.{first_leads}
@@ -40,7 +40,7 @@ no_place : (r : AtHand) (p i n : ℕ) → is_place (child_piece r p i n) ≡ fal
 no_place r p i n =
     neither (nat_eq p TRUE_PROCEDURE) true_piece _ refl
     (neither (nat_eq p UNIFY_PROCEDURE) (unify_piece r i n) _ (no_unifier r i n)
-    (neither (nat_eq p ASSIGN_PROCEDURE) (assign_piece r i n) (process_piece p (term_words r i n)) (no_assigner r i n) refl))
+    (neither (nat_eq p ASSIGN_PROCEDURE) (assign_piece r i n) (process_piece p (passed_words r i n)) (no_assigner r i n) refl))
 
 pub spawn_steady : SteadySpawn
 spawn_steady c kept at n r course h p i parts e few count room =

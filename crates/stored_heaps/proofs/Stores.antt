@@ -3,7 +3,8 @@ use Rattle.std.proofs.Common.{◌≡◌, ℕ, ◌*◌, ◌≤◌, List, [], ◌�
 use Rattle.std.proofs.Common.{inl, Bool, true, false, cond}
 use Rattle.fcp_model.specs.declared.source.GoalText.{GoalText}
 use Rattle.fcp_model.specs.declared.source.Module.{Module}
-use Rattle.fcp_model.specs.Places.{made, place}
+use Rattle.fcp_model.specs.Places.{Variable, made, place}
+use Rattle.fcp_model.specs.Terms.{Term, find}
 use Rattle.fcp_model.specs.States.{Status, ready, waiting, finished, Process}
 use Rattle.fcp_model.specs.Translation.{start_of}
 use Rattle.heap_words.specs.Cells.{decoded, is_final_word}
@@ -15,7 +16,8 @@ use Rattle.heap_words.specs.declared.cell.Stand.TheVariants as stand
 use Rattle.heap_words.specs.declared.cell.Stand.{Stand}
 use Rattle.heap_words.specs.declared.heap.PlainHeap.{PlainHeap}
 use Rattle.word_states.specs.Words.{At}
-use Rattle.word_states.specs.Standing.{StandsAt, StatusSays}
+use Rattle.word_states.specs.Standing.{StandsAt, StatusSays, PlaceSays}
+use Rattle.word_states.proofs.Leading.{open_short}
 use Rattle.goal_layout.specs.Goals.{LaysGoal}
 use Rattle.safe_tries.proofs.LowWords.{shown_low}
 use Rattle.trial_machine.specs.Goals.{HasStatus}
@@ -68,4 +70,10 @@ first_status h m g p ws l =
 pub place_unbound : (h : PlainHeap) (m : Module) (g : GoalText) (p : ℕ) (ws : List ℕ) (k : ℕ) → LaysGoal m g p ws h.words.items → 1 ≤ k
     → k ≤ length g.names → (e : ℕ) × At (inside_at h.words.items) (2 * k) (Unbound e)
 place_unbound h m g p ws k l low high =
-    let r = l.stands.says.word (made (place 0 k)) (2 * k) (l.places k low high) in (r.2.0, (r.0, r.1, r.2.1))
+    let s = start_of m g in
+    let r = l.stands.says.word (made (place 0 k)) (2 * k) (l.places k low high) in
+    let free : find l.stands.short (made (place 0 k)) ≡ None =
+    open_short s.bound s.bound l.stands.short (made (place 0 k)) l.stands.shortened refl in
+    let said : PlaceSays (inside_at h.words.items) l.book.places r.0 None =
+    subst (λ (o : Option (Term Variable)). PlaceSays (inside_at h.words.items) l.book.places r.0 o) free r.2 in
+    (said.0, (r.0, r.1, said.1))

@@ -13,6 +13,7 @@ use Rattle.heap_words.specs.declared.cell.Cell.{Cell}
 use Rattle.heap_words.specs.declared.cell.Cell.TheVariants.{Unbound, Small, Nil, Cons, Raw}
 use Rattle.word_states.specs.Words.{Words, At, Among}
 use Rattle.word_states.specs.Standing.{Book, StandsFor, PlaceAt, PlaceSays, Hangs, LinkSays}
+use Rattle.word_states.proofs.Leading.{open_short}
 use Rattle.suspension_lists.specs.Cells.{list_of, link_of, process_of}
 use Rattle.suspension_lists.specs.Waking.{Within}
 use Rattle.suspension_lists.specs.Entries.{Tells, IsOneOf, IsEntry, NoEntry, Path, ListHas}
@@ -101,7 +102,8 @@ pub hung_there : {k w : Words} {book : Book} {s : State} → Within k w → Stan
 hung_there {k = k} {w = w} {book = book} {s = s} up st j a as' at none l =
     let word = st.says.word (made j) a at in
     let says : PlaceSays w book.places word.0 None =
-    subst (λ (o : Option (Term Variable)). PlaceSays w book.places word.0 o) none word.2 in
+    subst (λ (o : Option (Term Variable)). PlaceSays w book.places word.0 o) (open_short s.bound s.bound st.short (made j) st.shortened none)
+    word.2 in
     let there : At w a (Unbound says.0) = (word.0, word.1, says.1) in
     let list = st.lists j a says.0 at there in
     let first : says.0 ≡ l.0 = tells_same up list_of a l.0 (Unbound says.0) l.1 there in

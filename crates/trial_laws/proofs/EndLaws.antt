@@ -32,12 +32,12 @@ use Rattle.trial_laws.proofs.TriedPlaces.{old_place, low_place}
 use Rattle.trial_laws.proofs.FirstLaws.{names_once}
 use Rattle.trial_laws.proofs.Settling.{starts_on, same_places, same_processes, get_settled, in_store, store_low, place_zero}
 
-children_said : (u : Words) (us : Addresses) (qs : List ℕ) (gs : List (Goal ℕ)) → GoalsSay u us qs (map (rename_goal own) gs)
-    → ChildrenSay u us qs gs
-children_said u us [] [] h = tt
-children_said u us (q ∷ qs) (g ∷ gs) h = (h.0, children_said u us qs gs h.1)
-children_said u us [] (g ∷ gs) h = absurd h
-children_said u us (q ∷ qs) [] h = absurd h
+children_said : (u : Words) (us : Addresses) (bs : Bindings) (qs : List ℕ) (gs : List (Goal ℕ))
+    → GoalsSay u us bs qs (map (rename_goal own) gs) → ChildrenSay u us bs qs gs
+children_said u us bs [] [] h = tt
+children_said u us bs (q ∷ qs) (g ∷ gs) h = (h.0, children_said u us bs qs gs h.1)
+children_said u us bs [] (g ∷ gs) h = absurd h
+children_said u us bs (q ∷ qs) [] h = absurd h
 
 the_body : (o : Option Clause) → body_used o ≡ map (rename_goal own) (body_of o)
 the_body None = refl
@@ -192,11 +192,11 @@ module _ (w : Words) (vs : Addresses) (bound : Bindings) (r : AtHand) (t : Tryin
     few = few;
     variable = λ i a l. variable_says i a
         (subst (λ (z : List ℕ). Listed (numbered 1 z) (own i) a) (same_places r.binds 4000000000 r.pieces) l);
-    children = children_said U' V' _ (body_of (clause_used m g t.clause))
-        (subst (λ (qs : List ℕ). GoalsSay U' V' qs (map (rename_goal own) (body_of (clause_used m g t.clause))))
+    children = children_said U' V' t.bound _ (body_of (clause_used m g t.clause))
+        (subst (λ (qs : List ℕ). GoalsSay U' V' t.bound qs (map (rename_goal own) (body_of (clause_used m g t.clause))))
         (sym (same_processes r.binds 4000000000 r.pieces))
-        (subst (λ (gs : List (Goal Variable)). GoalsSay U' V' (process_words 4000000000 r.pieces) gs) kids
-        (goals_on _ _ _ _ grows on _ t.children s.children)));
+        (subst (λ (gs : List (Goal Variable)). GoalsSay U' V' t.bound (process_words 4000000000 r.pieces) gs) kids
+        (goals_on _ _ _ _ t.bound t.bound grows on (λ v u e. e) _ t.children s.children)));
   }
     where
       same : commits t.clause t.bound (t.earlier ++ t.read) ≡ d.0

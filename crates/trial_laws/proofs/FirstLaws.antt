@@ -24,6 +24,7 @@ use Rattle.trial_laws.specs.AtHand.{AtHand, term_word, ArePieces, GoalsSay, IsSt
 use Rattle.trial_laws.specs.Laws.{IsFilled, LawOfFirst}
 use Rattle.trial_laws.proofs.Pieces.{either_word, store_word, word_of_piece, piece_word, place_on, goals_on, named_on, not_empty}
 use Rattle.trial_laws.proofs.Pieces.{starts_once}
+use Rattle.trial_laws.proofs.BoundMore.{part_behind}
 use Rattle.trial_laws.proofs.Slots.{step, term_says}
 use Rattle.trial_laws.proofs.TriedPlaces.{below}
 use Rattle.trial_laws.proofs.PlacesInOrder.{own_bound}
@@ -246,8 +247,8 @@ module _ (w : Words) (vs : Addresses) (bound : Bindings) (r : AtHand) (t : Tryin
     order = subst (AreAt vs (addresses_of (of_store r.binds))) (sym (own_bound t.bound k u)) s.order;
     reads = named_on _ _ on r.reads t.read s.reads;
     waits = s.waits;
-    children = subst (λ (qs : List ℕ). GoalsSay (with_own ps w) (with_variables ps vs) qs t.children) (sym f.same_processes)
-        (goals_on _ _ _ _ grows on _ t.children s.children);
+    children = subst (λ (qs : List ℕ). GoalsSay (with_own ps w) (with_variables ps vs) bs' qs t.children) (sym f.same_processes)
+        (goals_on _ _ _ _ t.bound bs' grows on (part_behind t.bound ((own k, u) ∷ [])) _ t.children s.children);
   }
 
 pub first_leads : LawOfFirst

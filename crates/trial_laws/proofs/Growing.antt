@@ -32,13 +32,13 @@ module _ (w : Words) (vs : Addresses) (bound : Bindings) (r : AtHand) (t : Tryin
       go (Some y) f = f
 
   -- the children say what they said
-  pub children_on : GoalsSay (with_own (r.pieces ++ p ∷ []) w) (with_variables (r.pieces ++ p ∷ []) vs)
+  pub children_on : GoalsSay (with_own (r.pieces ++ p ∷ []) w) (with_variables (r.pieces ++ p ∷ []) vs) t.bound
       (process_words 4000000000 r.pieces) t.children
-  children_on = goals_on _ _ _ _ grows_by listed_on _ t.children s.children
+  children_on = goals_on _ _ _ _ _ _ grows_by listed_on (λ v u e. e) _ t.children s.children
 
   -- with these children
   pub grown_with : (cs : List (Goal Variable))
-      → GoalsSay (with_own (r.pieces ++ p ∷ []) w) (with_variables (r.pieces ++ p ∷ []) vs) (process_words 4000000000
+      → GoalsSay (with_own (r.pieces ++ p ∷ []) w) (with_variables (r.pieces ++ p ∷ []) vs) t.bound (process_words 4000000000
       (r.pieces ++ p ∷ [])) cs
       → StandsForTry w vs bound (record r { pieces = r.pieces ++ p ∷ [] }) (record t { children = cs })
   grown_with cs say = record {
@@ -62,5 +62,5 @@ module _ (w : Words) (vs : Addresses) (bound : Bindings) (r : AtHand) (t : Tryin
   pub grown : is_process p ≡ false → StandsForTry w vs bound (record r { pieces = r.pieces ++ p ∷ [] }) t
   grown no_process =
       grown_with t.children
-      (subst (λ (qs : List ℕ). GoalsSay (with_own (r.pieces ++ p ∷ []) w) (with_variables (r.pieces ++ p ∷ []) vs) qs t.children)
+      (subst (λ (qs : List ℕ). GoalsSay (with_own (r.pieces ++ p ∷ []) w) (with_variables (r.pieces ++ p ∷ []) vs) t.bound qs t.children)
       (sym (processes_left 4000000000 r.pieces p no_process)) children_on)

@@ -19,6 +19,8 @@ use Rattle.word_states.proofs.Pieces.{in_rows, rows_in, nine_is, zero_is}
 use Rattle.trial_laws.specs.AtHand.{AtHand, term_word}
 use Rattle.trial_laws.specs.Laws.{holding, IsFilled, places_for}
 use Rattle.trial_laws.specs.NewPieces.{next_piece, with_piece, HasRoom, term_words, process_piece, true_piece, unify_piece, assign_piece}
+use Rattle.trial_laws.specs.NewPieces.{passed, passed_words}
+use Rattle.trial_laws.proofs.LedPassing.{led_passed}
 use Rattle.trial_laws.specs.Leading.{IsLedOn, LedVariable, LedPair, LedTuple, LedOperation, LedWide, LedChild, LedFirst, LedTry}
 use Rattle.trial_laws.proofs.Pieces.{starts_last, starts_once, not_empty}
 use Rattle.trial_laws.proofs.Slots.{own_place}
@@ -143,33 +145,50 @@ led_child read r h p i n l few room = go (nat_eq p TRUE_PROCEDURE) (nat_eq p UNI
     two x y u v (suc zero) z e = subst (LeadsOn read r.pieces) (same_Some _ _ e) v
     two x y u v (suc (suc d)) z e = let g : None ≡ Some z = e in cc
 
+    passes : (j : ℕ) → LeadsOn read r.pieces (passed r (term_word r j)) × (is_final_word (passed r (term_word r j)) ≡ true)
+    passes j = let x = slot_leads read r h j in led_passed read r h (term_word r j) x.0 x.1.0
+
     equals : (n : ℕ) → HasRoom r (length (unify_piece r i n)) → IsLedOn read (with_piece r (unify_piece r i n))
     equals zero m = truth m
     equals (suc zero) m = truth m
     equals (suc (suc n)) m =
-        let x = slot_leads read r h i in
-        let y = slot_leads read r h (suc i) in
-        led_process read r h UNIFY_PROCEDURE (term_word r i ∷ term_word r (suc i) ∷ []) (omega arith) (omega arith) (x.1.0, (y.1.0, tt)) m
-        (two (term_word r i) (term_word r (suc i)) x.0 y.0)
+        let x = passes i in
+        let y = passes (suc i) in
+        led_process read r h UNIFY_PROCEDURE (passed r (term_word r i) ∷ passed r (term_word r (suc i)) ∷ []) (omega arith) (omega arith)
+        (x.1, (y.1, tt)) m (two (passed r (term_word r i)) (passed r (term_word r (suc i))) x.0 y.0)
 
     assigns : (n : ℕ) → HasRoom r (length (assign_piece r i n)) → IsLedOn read (with_piece r (assign_piece r i n))
     assigns zero m = truth m
     assigns (suc zero) m = truth m
     assigns (suc (suc n)) m =
-        let x = slot_leads read r h i in
-        led_process read r h ASSIGN_PROCEDURE (term_word r i ∷ r.slots (suc i) ∷ []) (omega arith) (omega arith)
-        (x.1.0, ((h.terms (suc i)).0, tt)) m (two (term_word r i) (r.slots (suc i)) x.0 (h.slots (suc i)))
+        let x = passes i in
+        let y = led_passed read r h (r.slots (suc i)) (h.slots (suc i)) (h.terms (suc i)).0 in
+        led_process read r h ASSIGN_PROCEDURE (passed r (term_word r i) ∷ passed r (r.slots (suc i)) ∷ []) (omega arith) (omega arith)
+        (x.1, (y.1, tt)) m (two (passed r (term_word r i)) (passed r (r.slots (suc i))) x.0 y.0)
 
-    user : HasRoom r (length (process_piece p (term_words r i n))) → IsLedOn read (with_piece r (process_piece p (term_words r i n)))
+    count : (j k : ℕ) → length (passed_words r j k) ≡ k
+    count j zero = refl
+    count j (suc k) = ap suc (count (suc j) k)
+
+    all_final : (j k : ℕ) → AreFinal (passed_words r j k)
+    all_final j zero = tt
+    all_final j (suc k) = ((passes j).1, all_final (suc j) k)
+
+    all_lead : (j k d z : ℕ) → slice_get (passed_words r j k) d ≡ Some z → LeadsOn read r.pieces z
+    all_lead j zero d z e = let g : None ≡ Some z = e in cc
+    all_lead j (suc k) zero z e = subst (LeadsOn read r.pieces) (same_Some _ _ e) (passes j).0
+    all_lead j (suc k) (suc d) z e = all_lead (suc j) k d z e
+
+    user : HasRoom r (length (process_piece p (passed_words r i n))) → IsLedOn read (with_piece r (process_piece p (passed_words r i n)))
     user m =
-        led_process read r h p (term_words r i n) (omega arith) (subst (λ (k : ℕ). k < 0x100000000) (sym (words_length r i n)) few)
-        (words_final read r h i n) m (words_lead read r h i n)
+        led_process read r h p (passed_words r i n) (omega arith) (subst (λ (k : ℕ). k < 0x100000000) (sym (count i n)) few)
+        (all_final i n) m (all_lead i n)
 
     go : (a b c : Bool)
         → HasRoom r (length
-        (cond a true_piece (cond b (unify_piece r i n) (cond c (assign_piece r i n) (process_piece p (term_words r i n))))))
+        (cond a true_piece (cond b (unify_piece r i n) (cond c (assign_piece r i n) (process_piece p (passed_words r i n))))))
         → IsLedOn read (with_piece r
-        (cond a true_piece (cond b (unify_piece r i n) (cond c (assign_piece r i n) (process_piece p (term_words r i n))))))
+        (cond a true_piece (cond b (unify_piece r i n) (cond c (assign_piece r i n) (process_piece p (passed_words r i n))))))
     go true b c m = truth m
     go false true c m = equals n m
     go false false true m = assigns n m

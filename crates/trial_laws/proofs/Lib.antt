@@ -1,10 +1,12 @@
 pub mod Pieces
+pub mod BoundMore
 pub mod Growing
 pub mod Slots
 pub mod TriedPlaces
 pub mod PlacesInOrder
 pub mod PutLaws
 pub mod PieceLaws
+pub mod Passing
 pub mod SpawnLaws
 pub mod TryLaws
 pub mod FirstLaws
@@ -19,5 +21,6 @@ pub mod UnifyLaws
 pub mod TestLaws
 pub mod BuiltInLaws
 pub mod LedPieces
+pub mod LedPassing
 pub mod LedLaws
 pub mod LedEnds

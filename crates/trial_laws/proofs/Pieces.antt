@@ -5,7 +5,8 @@ use Rattle.std.proofs.Common.{inl, inr, ⊎_elim, arith, Option, Some, None}
 use Rattle.std.specs.Prelude.{slice_get}
 use Rattle.std.proofs.lemmas.Bool.{cond-false, cond-true}
 use Rattle.fcp_model.specs.Places.{Variable}
-use Rattle.fcp_model.specs.Terms.{Term}
+use Rattle.fcp_model.specs.Terms.{Term, Bindings}
+use Rattle.fcp_model.specs.Reads.{IsPart}
 use Rattle.fcp_model.specs.Programs.{Goal}
 use Rattle.heap_words.specs.Trails.{word_at}
 use Rattle.word_states.specs.Words.{Words, first_of, Grows}
@@ -13,7 +14,8 @@ use Rattle.word_states.specs.Denoting.{Addresses, Listed}
 use Rattle.word_states.specs.Standing.{PlaceSays}
 use Rattle.word_states.specs.Pieces.{rows, StartsAt, is_place, is_process, place_words, process_words, IsPiece, a_place, a_pair, a_tuple}
 use Rattle.word_states.specs.Pieces.{a_wide, a_process, with_own}
-use Rattle.word_states.proofs.Persisting.{denotes_on, goal_on}
+use Rattle.word_states.proofs.Leading.{goal_stands_on}
+use Rattle.word_states.proofs.Persisting.{denotes_on}
 use Rattle.word_states.proofs.Pieces.{in_rows, rows_in, rows_above, starts_above}
 use Rattle.trial_laws.specs.AtHand.{end_of, AreCalled, GoalsSay}
 
@@ -135,19 +137,21 @@ pub place_on : (u u' : Words) (us us' : Addresses) → Grows u u' → ((v : Vari
 place_on u u' us us' g m x None h = h
 place_on u u' us us' g m x (Some t) h = denotes_on u u' us us' g m x t h
 
-pub goals_on : (u u' : Words) (us us' : Addresses) → Grows u u' → ((v : Variable) (a : ℕ) → Listed us v a → Listed us' v a) → (qs : List ℕ)
-    (gs : List (Goal Variable)) → GoalsSay u us qs gs → GoalsSay u' us' qs gs
-goals_on u u' us us' g m [] [] h = tt
-goals_on u u' us us' g m (q ∷ qs) (x ∷ gs) h = (goal_on u u' us us' g m q x h.0, goals_on u u' us us' g m qs gs h.1)
-goals_on u u' us us' g m [] (x ∷ gs) h = absurd h
-goals_on u u' us us' g m (q ∷ qs) [] h = absurd h
+pub goals_on : (u u' : Words) (us us' : Addresses) (bs bs' : Bindings) → Grows u u'
+    → ((v : Variable) (a : ℕ) → Listed us v a → Listed us' v a) → IsPart bs bs' → (qs : List ℕ) (gs : List (Goal Variable))
+    → GoalsSay u us bs qs gs → GoalsSay u' us' bs' qs gs
+goals_on u u' us us' bs bs' g m more [] [] h = tt
+goals_on u u' us us' bs bs' g m more (q ∷ qs) (x ∷ gs) h =
+    (goal_stands_on bs bs' more u u' us us' q x g m h.0, goals_on u u' us us' bs bs' g m more qs gs h.1)
+goals_on u u' us us' bs bs' g m more [] (x ∷ gs) h = absurd h
+goals_on u u' us us' bs bs' g m more (q ∷ qs) [] h = absurd h
 
-pub goals_last : (u : Words) (us : Addresses) (qs : List ℕ) (gs : List (Goal Variable)) (q : ℕ) (g : Goal Variable) → GoalsSay u us qs gs
-    → GoalsSay u us (q ∷ []) (g ∷ []) → GoalsSay u us (qs ++ q ∷ []) (gs ++ g ∷ [])
-goals_last u us [] [] q g h k = k
-goals_last u us (p ∷ qs) (x ∷ gs) q g h k = (h.0, goals_last u us qs gs q g h.1 k)
-goals_last u us [] (x ∷ gs) q g h k = absurd h
-goals_last u us (p ∷ qs) [] q g h k = absurd h
+pub goals_last : (u : Words) (us : Addresses) (bs : Bindings) (qs : List ℕ) (gs : List (Goal Variable)) (q : ℕ) (g : Goal Variable)
+    → GoalsSay u us bs qs gs → GoalsSay u us bs (q ∷ []) (g ∷ []) → GoalsSay u us bs (qs ++ q ∷ []) (gs ++ g ∷ [])
+goals_last u us bs [] [] q g h k = k
+goals_last u us bs (p ∷ qs) (x ∷ gs) q g h k = (h.0, goals_last u us bs qs gs q g h.1 k)
+goals_last u us bs [] (x ∷ gs) q g h k = absurd h
+goals_last u us bs (p ∷ qs) [] q g h k = absurd h
 
 pub named_on : (us us' : Addresses) → ((v : Variable) (a : ℕ) → Listed us v a → Listed us' v a) → (as' : List ℕ) (vs : List Variable)
     → AreCalled us as' vs → AreCalled us' as' vs

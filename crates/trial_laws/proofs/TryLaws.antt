@@ -99,7 +99,7 @@ module _ (w : Words) (vs : Addresses) (bound : Bindings) (n : ℕ) (store : IsSt
     order = tt;
     reads = tt;
     waits = s.waits;
-    children = subst (λ (qs : List ℕ). GoalsSay (with_own (places_for n) w) (with_variables (places_for n) vs) qs [])
+    children = subst (λ (qs : List ℕ). GoalsSay (with_own (places_for n) w) (with_variables (places_for n) vs) [] qs [])
         (sym (no_process n 4000000000)) tt;
   }
 

@@ -4,6 +4,7 @@ use Rattle.std.proofs.Common.{Option, Some, None}
 use Rattle.std.specs.Prelude.{slice_get}
 use Rattle.fcp_model.specs.Places.{Variable}
 use Rattle.fcp_model.specs.Terms.{Term, Bindings, find}
+use Rattle.fcp_model.specs.Reads.{IsPart}
 use Rattle.fcp_model.specs.Unification.{unify}
 use Rattle.fcp_model.specs.Unification as endings
 use Rattle.fcp_model.proofs.Finding.{found_or, find-append}
@@ -27,6 +28,8 @@ use Rattle.machine_code.specs.Machine.{Trying, Meaning, unified, follow}
 use Rattle.trial_laws.specs.AtHand.{AtHand, ArePieces, IsStore, StandsForTry, Gives, Leads}
 use Rattle.trial_laws.specs.Laws.{AreArguments, AreNoted, left, after_leave}
 use Rattle.trial_laws.specs.Unifying.{UnifiesSlots, LawOfUnify, LawOfClash, LawOfPause}
+use Rattle.trial_laws.proofs.BoundMore.{unify_part}
+use Rattle.trial_laws.proofs.Pieces.{goals_on}
 use Rattle.trial_laws.proofs.Slots.{step_given}
 use Rattle.trial_laws.proofs.TryLaws.{leaves}
 use Rattle.trial_laws.proofs.PlacesInOrder.{still_in_order}
@@ -43,7 +46,7 @@ module _ (w : Words) (vs : Addresses) (bound : Bindings) (r : AtHand) (t : Tryin
     (new : BindsNamed (naming (with_variables r.pieces vs)) (memory_of (with_own r.pieces w)) bound t.bound
     (endings.done us (map (naming (with_variables r.pieces vs)).name rs)))
     (in_order : BindsInOrder (naming (with_variables r.pieces vs)) (memory_of (with_own r.pieces w)) r.binds t.bound (done bs rs)
-    (endings.done us (map (naming (with_variables r.pieces vs)).name rs))) where
+    (endings.done us (map (naming (with_variables r.pieces vs)).name rs))) (more : IsPart t.bound us) where
   abbrev U : Words
   U = with_own r.pieces w
 
@@ -121,7 +124,7 @@ module _ (w : Words) (vs : Addresses) (bound : Bindings) (r : AtHand) (t : Tryin
     order = still_in_order w vs bound r.pieces store M r.binds bs t.bound us rs (map P.name rs) in_order s.order;
     reads = calls w vs bound r t store formed s i j (done bs rs) unifies rs ends.1;
     waits = s.waits;
-    children = s.children;
+    children = goals_on _ _ _ _ t.bound us (λ a x e f. e) (λ v a l. l) more _ t.children s.children;
   }
 
 -- the definitions unify the terms of the slots to an end
@@ -176,6 +179,7 @@ unify_leads w vs bound ops args at r t store formed s i j bs rs e unifies =
     go _ _ (finished bs' rs' us st) f g n o =
         let i' : bs' ≡ bs = cc in
         let j' : rs' ≡ rs = cc in
+        let how = so w vs bound r t store formed s i j (done bs rs) unifies in
         let st' : Stands (naming (with_variables r.pieces vs)) (memory_of (with_own r.pieces w)) bs (bound ++ us) =
         subst (λ (z : WordList). Stands (naming (with_variables r.pieces vs)) (memory_of (with_own r.pieces w)) z (bound ++ us)) i' st in
         let n' : BindsNamed (naming (with_variables r.pieces vs)) (memory_of (with_own r.pieces w)) bound t.bound
@@ -186,7 +190,8 @@ unify_leads w vs bound ops args at r t store formed s i j bs rs e unifies =
         (done z rs) (endings.done us (map (naming (with_variables r.pieces vs)).name rs))) i' o in
         record {
           state = record t { bound = us; read = map (naming (with_variables r.pieces vs)).name rs };
-          stands = unified_stands w vs bound r t store formed s i j bs rs unifies us st' n' o';
+          stands = unified_stands w vs bound r t store formed s i j bs rs unifies us st' n' o'
+              (unify_part how.steps bound t.bound _ _ us _ (how.by_steps ∙ ap Some (sym g)));
           gives = gives_after w vs bound ops args at r t store formed s i j e (done bs rs) unifies (suc at) _
               (endings.done us (map (naming (with_variables r.pieces vs)).name rs))
               (ap (λ (z : List ℕ). endings.done us (map (naming (with_variables r.pieces vs)).name z)) (sym j') ∙ g) (λ m. refl);

@@ -10,7 +10,8 @@ use Rattle.fcp_model.specs.Reads.{BindsPlaces}
 use Rattle.heap_words.specs.Trails.{WordList, word_at}
 use Rattle.heap_words.specs.declared.cell.Cell.TheVariants.{Unbound}
 use Rattle.word_states.specs.Words.{Words, At, addresses_of, over, IsIn}
-use Rattle.word_states.specs.Denoting.{Addresses, Listed, ExprSays, GoalSays}
+use Rattle.word_states.specs.Denoting.{Addresses, Listed, ExprSays}
+use Rattle.word_states.specs.Leading.{GoalStands}
 use Rattle.word_states.specs.Standing.{PlacesStand, PlaceSays}
 use Rattle.word_states.specs.Pieces.{StartsAt, process_words, IsPiece, with_own, with_variables}
 use Rattle.word_states.specs.Trials.{places_bound, AreAt}
@@ -67,11 +68,11 @@ pub record ArePlacesAmong (vs : Addresses) (as' : List ℕ) (qs : List Variable)
   pub all : (j : Place) → IsAmong qs (made j) → (a : ℕ) × Listed vs (made j) a × IsIn a as'
   pub only : (a : ℕ) → IsIn a as' → (j : Place) × Listed vs (made j) a × IsAmong qs (made j)
 
--- the processes at these addresses have these goals
-abbrev pub GoalsSay : Words → Addresses → List ℕ → List (Goal Variable) → Type 0
-GoalsSay w vs [] [] = Unit {0}
-GoalsSay w vs (q ∷ qs) (g ∷ gs) = GoalSays w vs q g × GoalsSay w vs qs gs
-GoalsSay w vs _ _ = ⊥
+-- the processes at these addresses have goals to which these lead, by the bindings
+abbrev pub GoalsSay : Words → Addresses → Bindings → List ℕ → List (Goal Variable) → Type 0
+GoalsSay w vs bs [] [] = Unit {0}
+GoalsSay w vs bs (q ∷ qs) (g ∷ gs) = GoalStands w vs bs q g × GoalsSay w vs bs qs gs
+GoalsSay w vs bs _ _ = ⊥
 
 -- the words of the store, with places that stand for bindings
 pub record IsStore (w : Words) (vs : Addresses) (bound : Bindings) : Type 0 where
@@ -107,8 +108,8 @@ pub record StandsForTry (w : Words) (vs : Addresses) (bound : Bindings) (r : AtH
   -- what it read, in order, and the places that the tries before it read
   pub reads : AreCalled (with_variables r.pieces vs) r.reads t.read
   pub waits : ArePlacesAmong vs r.waits t.earlier
-  -- its children, in order
-  pub children : GoalsSay (with_own r.pieces w) (with_variables r.pieces vs) (process_words 4000000000 r.pieces) t.children
+  -- its children, in order: by the try's bindings their goals lead to those that the words say
+  pub children : GoalsSay (with_own r.pieces w) (with_variables r.pieces vs) t.bound (process_words 4000000000 r.pieces) t.children
 
 -- from a position on the code gives this, by some number of steps
 abbrev pub Gives : Bindings → List Op → List (Term Variable) → ℕ → Trying → Meaning → Type 0

@@ -1,11 +1,16 @@
 -- The laws of the instructions that put a new piece after the others: a pair, a tuple, an operation, a wide number, a process.
 use Rattle.std.specs.Prelude.{◌≡◌, ℕ, zero, suc, ◌+◌, ◌*◌, ◌<◌, ◌≤◌, ℤ, true, false, List, [], ◌∷◌, ◌++◌, length, Some, None, slice_get}
-use Rattle.std.specs.Prelude.{if◌then◌else◌, nat_eq}
+use Rattle.std.specs.Prelude.{if◌then◌else◌, nat_eq, Option, unwrap_or}
 use Rattle.fcp_model.specs.declared.term.ArithOp.{ArithOp}
 use Rattle.fcp_model.specs.declared.goal.TheConstants.{TRUE_PROCEDURE, UNIFY_PROCEDURE, ASSIGN_PROCEDURE}
 use Rattle.fcp_model.specs.Terms.{number}
 use Rattle.heap_words.specs.Cells.{decoded, encoded}
+use Rattle.heap_words.specs.Heaps.{only_final}
+use Rattle.heap_words.specs.Trails.{word_at}
+use Rattle.heap_words.specs.declared.cell.Cell.{Cell}
 use Rattle.heap_words.specs.declared.cell.Cell.TheVariants as cell
+use Rattle.word_states.specs.Pieces.{rows}
+use Rattle.word_states.specs.Words.{first_of}
 use Rattle.word_states.specs.Denoting.{operator_code}
 use Rattle.word_states.specs.Numbers.{bits, low_bits, IsLong}
 use Rattle.machine_code.specs.Instructions.{PutWord, PutCons, PutTuple, Spawn}
@@ -61,16 +66,46 @@ LawOfWide = Always (λ w vs bound ops args at r t. (i x h : ℕ) (z low : ℤ) �
 abbrev pub process_piece : ℕ → List ℕ → List ℕ
 process_piece f xs = 9 ∷ 0 ∷ encoded (cell.Raw f) ∷ encoded (cell.Raw (length xs)) ∷ xs
 
--- of `true`, and of `=` and `:=`, which have two arguments
+-- of `true`
 abbrev pub true_piece : List ℕ
 true_piece = process_piece TRUE_PROCEDURE []
 
+-- The word that a place took in this try: that to which it is bound, or that which it took at its first occurrence.
+abbrev pub taken : AtHand → ℕ → Option ℕ
+taken r a = only_final (first_of (word_at r.binds a) (word_at (rows 4000000000 r.pieces) a))
+
+-- a word as a read-only occurrence
+abbrev pub marked_word : ℕ → Option Cell → ℕ
+marked_word x (Some (cell.Ref a)) = encoded (cell.RoRef a)
+marked_word x _ = x
+
+-- so a read-only reference to a place that took a word
+abbrev pub marked : ℕ → Option ℕ → ℕ
+marked x None = x
+marked x (Some y) = marked_word y (decoded y)
+
+-- a word, by the words that places took: for a reference to such a place that which it took
+abbrev pub passed_in : (ℕ → Option ℕ) → ℕ → Option Cell → ℕ
+passed_in at x (Some (cell.Ref a)) = unwrap_or (at a) x
+passed_in at x (Some (cell.RoRef a)) = marked x (at a)
+passed_in at x _ = x
+
+-- the word that a child takes for a word
+abbrev pub passed : AtHand → ℕ → ℕ
+passed r x = passed_in (taken r) x (decoded x)
+
+-- and for the words of so many slots, as terms
+abbrev pub passed_words : AtHand → ℕ → ℕ → List ℕ
+passed_words r i zero = []
+passed_words r i (suc n) = passed r (term_word r i) ∷ passed_words r (suc i) n
+
+-- the piece of `=`, and that of `:=`, which have two arguments
 abbrev pub unify_piece : AtHand → ℕ → ℕ → List ℕ
-unify_piece r i (suc (suc n)) = process_piece UNIFY_PROCEDURE (term_word r i ∷ term_word r (suc i) ∷ [])
+unify_piece r i (suc (suc n)) = process_piece UNIFY_PROCEDURE (passed r (term_word r i) ∷ passed r (term_word r (suc i)) ∷ [])
 unify_piece r i _ = true_piece
 
 abbrev pub assign_piece : AtHand → ℕ → ℕ → List ℕ
-assign_piece r i (suc (suc n)) = process_piece ASSIGN_PROCEDURE (term_word r i ∷ r.slots (suc i) ∷ [])
+assign_piece r i (suc (suc n)) = process_piece ASSIGN_PROCEDURE (passed r (term_word r i) ∷ passed r (r.slots (suc i)) ∷ [])
 assign_piece r i _ = true_piece
 
 -- the piece of the process that calls a procedure with the contents of slots
@@ -78,7 +113,7 @@ abbrev pub child_piece : AtHand → ℕ → ℕ → ℕ → List ℕ
 child_piece r p i n =
     if nat_eq p TRUE_PROCEDURE then true_piece else
     (if nat_eq p UNIFY_PROCEDURE then unify_piece r i n else
-    (if nat_eq p ASSIGN_PROCEDURE then assign_piece r i n else process_piece p (term_words r i n)))
+    (if nat_eq p ASSIGN_PROCEDURE then assign_piece r i n else process_piece p (passed_words r i n)))
 
 -- a new child
 abbrev pub LawOfSpawn : Type 0

@@ -55,8 +55,8 @@ try_begun m d clause next vars begins keeps few f at h e is = record {
     r = at_machine m
 
 -- a child
-pub child_put : (m : Machine) (d : Desk) (base p from parts : ℕ) → Adds m.desk d (λ r. child_piece r p from parts) → KeepsDesk m.desk d
-    → base ≡ length d.pieces → p < 4294967296 → parts < 65536 → StepsOn m (with_desk m d base) (Spawn p from parts)
+pub child_put : (m : Machine) (d : Desk) (base p from parts : ℕ) → Adds m.trail.binds m.desk d (λ r. child_piece r p from parts)
+    → KeepsDesk m.desk d → base ≡ length d.pieces → p < 4294967296 → parts < 65536 → StepsOn m (with_desk m d base) (Spawn p from parts)
 child_put m d base p from parts adds keeps count few small f at h e =
     goes_on f at (suc at) base m d (with_piece r child) h keeps added.0
     (subst (λ k. IsSteady (course f m) m.trail.kept (suc at) k (with_piece r child)) (sym all)
@@ -69,7 +69,7 @@ child_put m d base p from parts adds keeps count few small f at h e =
     child = child_piece r p from parts
 
     added : (hand d m.trail.binds m.trail.reads.items m.waits ≡ with_piece r child) × HasRoom r (length child)
-    added = adds m.trail.binds m.trail.reads.items m.waits
+    added = adds m.trail.reads.items m.waits
 
     one : length r.pieces + 1 ≡ suc (length r.pieces)
     one = omega arith

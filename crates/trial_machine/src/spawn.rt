@@ -37,14 +37,16 @@ impl Machine {
         Ok(())
     }
 
-    /// A new child calls a procedure with the contents of so many slots from `first` on.
+    /// A new child calls a procedure with the contents of so many slots from `first` on; for a reference to a place that took a word in
+    /// this try it takes that word.
     pub(crate) fn spawn(&mut self, procedure: u32, first: u32, parts: u8) -> Result<(), NoMemory>
         requires { first + parts < 4294967296 }
         ensures steps { OnOk result (StepsOn self.old self.new (Spawn procedure first parts)) }
         ensures keeps { KeepsMachine self.old self.new }
         ensures kept { self.new.trail.kept ≡ self.old.trail.kept }
     {
-        self.desk.put_child(procedure, first, parts as u32)?;
+        self.desk
+            .put_child(&self.trail, procedure, first, parts as u32)?;
         self.base = self.desk.pieces.count();
         Ok(())
     }

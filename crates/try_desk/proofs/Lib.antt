@@ -9,3 +9,4 @@ pub mod Sizes
 pub mod Counted
 pub mod OpenedTuples
 pub mod Settling
+pub mod Passed

@@ -2,7 +2,7 @@
 use Rattle.std.specs.Prelude.{◌≡◌, length, take, ℕ, Bool, false, List, [], slice_get, unwrap_or}
 use Rattle.heap_words.specs.Trails.{WordList}
 use Rattle.trial_laws.specs.AtHand.{AtHand}
-use Rattle.trial_laws.specs.Laws.{begun}
+use Rattle.trial_laws.specs.Laws.{empty, begun}
 use Rattle.trial_laws.specs.NewPieces.{with_piece, HasRoom}
 use Rattle.try_desk.specs.Held.{Held, held}
 use Rattle.try_desk.specs.declared.desk.Desk.{Desk}
@@ -21,6 +21,10 @@ at_hand clause next behind h ps binds reads waits = record {
   waits = waits;
 }
 
+-- the pieces at hand, and what a trail has bound
+abbrev pub pieces_at_hand : List (List ℕ) → WordList → AtHand
+pieces_at_hand ps binds = record empty { pieces = ps; binds = binds }
+
 -- what is at hand with a desk
 abbrev pub hand : Desk → WordList → List ℕ → List ℕ → AtHand
 hand d binds reads waits = at_hand d.clause d.next d.behind (held d.slots) d.pieces binds reads waits
@@ -29,9 +33,9 @@ hand d binds reads waits = at_hand d.clause d.next d.behind (held d.slots) d.pie
 abbrev pub Becomes : Desk → Desk → (AtHand → AtHand) → Type 0
 Becomes old new f = (binds : WordList) (reads waits : List ℕ) → hand new binds reads waits ≡ f (hand old binds reads waits)
 
--- a piece was put after the others, and had room
-abbrev pub Adds : Desk → Desk → (AtHand → List ℕ) → Type 0
-Adds old new p = (binds : WordList) (reads waits : List ℕ)
+-- A piece was put after the others, and had room. It may depend on what the trail has bound.
+abbrev pub Adds : WordList → Desk → Desk → (AtHand → List ℕ) → Type 0
+Adds binds old new p = (reads waits : List ℕ)
     → (hand new binds reads waits ≡ with_piece (hand old binds reads waits) (p (hand old binds reads waits)))
     × HasRoom (hand old binds reads waits) (length (p (hand old binds reads waits)))
 

@@ -8,6 +8,7 @@ mod desk;
 mod get;
 mod open;
 mod open_tuple;
+mod pass;
 mod pieces;
 mod processes;
 mod put;

@@ -7,7 +7,7 @@ use Rattle.fcp_model.specs.declared.run.Proc.{Proc}
 use Rattle.fcp_model.specs.Places.{made}
 use Rattle.fcp_model.specs.Programs.{Program}
 use Rattle.fcp_model.specs.Terms.{Bindings}
-use Rattle.fcp_model.specs.Cells.{clause_used}
+use Rattle.fcp_model.specs.Cells.{clause_used, commit_cells}
 use Rattle.fcp_model.specs.Decisions.{commits}
 use Rattle.fcp_model.specs.States.{Status, ready, waiting, finished, Process, State, is_ready}
 use Rattle.fcp_model.specs.Events.{Event, wake, with_status, is_woken, made_ready, children_of, event_of}
@@ -25,7 +25,7 @@ use Rattle.word_states.proofs.Persisting.{map_stands, map_length}
 use Rattle.word_state_laws.specs.Laws.{MayMove, CommitGoes, book_after}
 use Rattle.word_state_laws.proofs.Appended.{stands_left, stands_right}
 use Rattle.word_state_laws.proofs.CommitPlans.{commit_laid}
-use Rattle.word_state_laws.proofs.TriedMoves.{tried, a_commit_goes}
+use Rattle.word_state_laws.proofs.TriedMoves.{said, tried, used, a_commit_goes}
 use Rattle.page_layout.specs.declared.rooms.Room.{Room}
 use Rattle.page_layout.specs.Laying.{moved_to, cuts, tops_of}
 use Rattle.page_layout.proofs.Sizes.{cuts_sized}
@@ -64,15 +64,15 @@ module _ {kept : WordList} {p z k : ℕ} {binds : WordList} {sizes own wakes : L
       (commit_planned ws rooms table sizes planned.laid (cuts sizes own) (cuts_sized sizes own planned.size) (suc s.entries) p binds wakes
       (found.commit p binds wakes (finds_commit planned)) (found.tops rooms planned.tops))
 
-  outcome : CommitGoes m book s mover.0 k binds (cuts sizes own) wakes (moved_to table) (inside_at ws) after
+  outcome : CommitGoes m book s mover.0 k binds (cuts sizes own) wakes (moved_to table) after
   outcome = a_commit_goes m book ws s p k mover.0 kept kept binds (cuts sizes own) wakes (moved_to table) after mover.1 may.has trial
       planned.read may.has planned.woken laid
 
   abbrev event : Event
-  event = event_of m s mover.0 (commits k outcome.says.bindings outcome.says.reads)
+  event = event_of m s mover.0 (commits k outcome.bindings outcome.reads)
 
   abbrev become : Process → Process
-  become q = wake outcome.says.bindings (with_status mover.0.name finished q)
+  become q = wake outcome.bindings (with_status mover.0.name finished q)
 
   abbrev born : List ℕ
   born = born_at (moved_to table) (cuts sizes own)
@@ -81,17 +81,17 @@ module _ {kept : WordList} {p z k : ℕ} {binds : WordList} {sizes own wakes : L
   children = children_of (suc s.entries) (clause_used m mover.0.goal k)
 
   -- another process stands where it was, and is woken or as before
-  on : (q : ℕ) (y y' : Process) → ProcessAt book s q y → (q ≡ p → ⊥) → wake outcome.says.bindings y ≡ y' → ProcessAt book' event.after q y'
+  on : (q : ℕ) (y y' : Process) → ProcessAt book s q y → (q ≡ p → ⊥) → wake outcome.bindings y ≡ y' → ProcessAt book' event.after q y'
   on q y y' h far e = stands_left book.processes born (map become s.processes) children q y'
       (subst (StandsAt book.processes (map become s.processes) q)
-      (ap (wake outcome.says.bindings) (stays_as may.stands p q mover.0 y finished mover.1.process h far) ∙ e)
+      (ap (wake outcome.bindings) (stays_as may.stands p q mover.0 y finished mover.1.process h far) ∙ e)
       (map_stands become book.processes s.processes q y h))
 
   -- the process that commits is not woken
-  not_mover : (q : ℕ) (y : Process) → ProcessAt book s q y → is_woken outcome.says.bindings y.status ≡ true → q ≡ p → ⊥
+  not_mover : (q : ℕ) (y : Process) → ProcessAt book s q y → is_woken outcome.bindings y.status ≡ true → q ≡ p → ⊥
   not_mover q y h t e =
       let same : y ≡ mover.0 = (may.stands.once q p y mover.0 h mover.1.process).1 e in
-      true≢false (sym t ∙ ap (is_woken outcome.says.bindings) (ap (λ (v : Process). v.status) same ∙ mover.1.is_ready))
+      true≢false (sym t ∙ ap (is_woken outcome.bindings) (ap (λ (v : Process). v.status) same ∙ mover.1.is_ready))
 
   child_at : (q : ℕ) (y : Process) → StandsAt born children q y → ProcessAt book' event.after q y
   child_at q y h = stands_right book.processes born (map become s.processes) children q y
@@ -115,14 +115,15 @@ module _ {kept : WordList} {p z k : ℕ} {binds : WordList} {sizes own wakes : L
       book = book';
       stands = outcome.goes.stands;
     };
-    cells = cells (inside_at ws) book.places s.bound mover.0.goal (tried mover.1 kept may.has);
+    cells = ap commit_cells (used mover.1 m k)
+        ∙ cells (inside_at ws) book.places mover.1.stands.short (said mover.1).goal (tried mover.1 kept may.has);
     children = all_at book' event.after born children child_count child_at;
-    woken = woken_at may.stands outcome.says.bindings wakes book' event.after made_ready may.ordered outcome.woken outcome.by_name
+    woken = woken_at may.stands outcome.bindings wakes book' event.after made_ready may.ordered outcome.woken outcome.by_name
         (λ q y h t. on q y (made_ready y) h (not_mover q y h t) (cond-true _ _ _ t));
-    bound = outcome.says.order;
+    bound = outcome.order;
     waits = record { all = λ j h. absurd (true≢false (sym h)); only = λ a h. absurd h; count = refl };
     places_stay = λ j a h. listed_left book.places (fresh_places (moved_to table) (suc s.entries) (cuts sizes own)) (made j) a h;
-    processes_stay = λ q y h t far. on q y y h far (cond-false _ _ _ (ready_sleeps outcome.says.bindings y.status t));
+    processes_stay = λ q y h t far. on q y y h far (cond-false _ _ _ (ready_sleeps outcome.bindings y.status t));
   }
 
 pub commit_fits : ACommitFits

@@ -24,28 +24,19 @@ use Rattle.word_states.specs.Standing.{Book, PlacesStand, PlaceSays, Hangs, Stat
 use Rattle.word_states.specs.Standing.{ProcessAt, PlaceAt}
 use Rattle.word_states.specs.Effects.{CommitEffect}
 use Rattle.word_states.proofs.Lists.{listed_left, listed_either}
-use Rattle.word_states.proofs.Persisting.{denotes_final, one_cell, hangs_one, process_on, status_up, stands_map, map_stands, map_length}
+use Rattle.word_states.proofs.Leading.{process_on}
+use Rattle.word_states.proofs.Persisting.{denotes_final, one_cell, hangs_one, status_up, stands_map, map_stands, map_length}
 use Rattle.word_states.proofs.Persisting.{at_on, denotes_on, hangs_on}
+use Rattle.leading_laws.proofs.Extending.{part_append}
 use Rattle.word_state_laws.proofs.Settling.{find-settled_free, find-settled, not_bound, settled_before}
+use Rattle.word_state_laws.proofs.SettledWays.{MaySettle, may_settle, shortened_after, absent_after}
 use Rattle.word_state_laws.proofs.Hanging.{same_process_refl}
 use Rattle.word_state_laws.proofs.Appended.{names_append, map_append, map_map, stands_either, stands_left, stands_right, names_apart}
 
-module _ (book : Book) (fresh : Addresses) (born : List ℕ) (s : State) (p : ℕ) (x : Process) (c : Option Clause) (bs : Bindings)
-    (w w' : Words) (stands : StandsFor book w s) (eff : CommitEffect book fresh born s p x c bs w w') where
-  abbrev n : ℕ
-  n = suc s.entries
-
-  abbrev places' : Addresses
-  places' = book.places ++ fresh
-
-  abbrev bound' : Bindings
-  bound' = settled n bs
-
-  abbrev children : List Process
-  children = children_of n c
-
-  abbrev become : Process → Process
-  become q = wake bs (with_status x.name finished q)
+module _ (book : Book) (fresh : Addresses) (born : List ℕ) (s : State) (p : ℕ) (x : Process) (c : Option Clause) (bs cs : Bindings)
+    (w w' : Words) (stands : StandsFor book w s) (eff : CommitEffect book fresh born s p x c stands.short bs cs w w') where
+  known : MaySettle (suc s.entries) s.bound bs
+  known = may_settle book w s bs cs stands eff.leads eff.bound_old
 
   abbrev After : ℕ → Process → Type 0
   After q y =
@@ -102,17 +93,22 @@ module _ (book : Book) (fresh : Addresses) (born : List ℕ) (s : State) (p : �
       (λ (t : StandsAt born (children_of (suc s.entries) c) q y). begins t)
       (origin q y h)
 
-  on : (q : ℕ) (z y : Process) → ProcessAt book s q z → y.name ≡ z.name → y.goal ≡ z.goal
-      → ((v : ℕ) × (w' q ≡ Some v) × StatusSays (suc s.entries) v y.status) → ProcessSays w' (book.places ++ fresh) (suc s.entries) q y
-  on q z y at = process_on w w' book.places (book.places ++ fresh) s.entries (suc s.entries) q z y eff.grows more (stands.process q z at)
+  -- what the words of a process say after the commit
+  abbrev Says : ℕ → Process → Type 0
+  Says q y = ProcessSays w' (book.places ++ fresh) (s.bound ++ settled (suc s.entries) bs) (suc s.entries) q y
 
-  process_says : (q : ℕ) (y : Process) → Was q y → ProcessSays w' (book.places ++ fresh) (suc s.entries) q y
+  on : (q : ℕ) (z y : Process) → ProcessAt book s q z → y.name ≡ z.name → y.goal ≡ z.goal
+      → ((v : ℕ) × (w' q ≡ Some v) × StatusSays (suc s.entries) v y.status) → Says q y
+  on q z y at = process_on s.bound (s.bound ++ settled (suc s.entries) bs) w w' book.places (book.places ++ fresh) s.entries
+      (suc s.entries) q z y (part_append s.bound (settled (suc s.entries) bs)) eff.grows more (stands.process q z at)
+
+  process_says : (q : ℕ) (y : Process) → Was q y → Says q y
   process_says q y (commits' here is) =
-      subst (ProcessSays w' (book.places ++ fresh) (suc s.entries) q) (sym is)
-      (subst (λ (b : ℕ). ProcessSays w' (book.places ++ fresh) (suc s.entries) b (record x { status = finished })) (sym here)
+      subst (Says q) (sym is)
+      (subst (λ (b : ℕ). Says b (record x { status = finished })) (sym here)
       (on p x (record x { status = finished }) eff.parent refl refl eff.done))
   process_says q y (wakes z far at u is) =
-      subst (ProcessSays w' (book.places ++ fresh) (suc s.entries) q) (sym is)
+      subst (Says q) (sym is)
       (on q z (record z { status = ready }) at refl refl (eff.woken q z at far u))
   process_says q y (stays far at u) =
       let r = (stands.process q y at).status in
@@ -159,8 +155,8 @@ module _ (book : Book) (fresh : Addresses) (born : List ℕ) (s : State) (p : �
   once_kept q r y z (inr a) (inr b) = eff.born_once q r y z a b
 
   -- what an old place's word says after the commit
-  place_says : (j : Place) (a : ℕ) → PlaceAt book j a → (o v : Option (Term Variable)) → find s.bound (made j) ≡ o
-      → find (settled (suc s.entries) bs) (made j) ≡ v → (y : ℕ) × (w' a ≡ Some y) × PlaceSays w' (book.places ++ fresh) y (found_or o v)
+  place_says : (j : Place) (a : ℕ) → PlaceAt book j a → (o v : Option (Term Variable)) → find stands.short (made j) ≡ o
+      → find (settled (suc s.entries) cs) (made j) ≡ v → (y : ℕ) × (w' a ≡ Some y) × PlaceSays w' (book.places ++ fresh) y (found_or o v)
   place_says j a h (Some t) v eo ev =
       let r = stands.says.word (made j) a h in
       let says : Denotes w book.places r.0 t = subst (PlaceSays w book.places r.0) eo r.2 in (
@@ -179,15 +175,19 @@ module _ (book : Book) (fresh : Addresses) (born : List ℕ) (s : State) (p : �
   fresh_says y (Some t) h = h
 
   place_word : (v : Variable) (a : ℕ) → Listed (book.places ++ fresh) v a → (y : ℕ) × (w' a ≡ Some y)
-      × PlaceSays w' (book.places ++ fresh) y (find (s.bound ++ settled (suc s.entries) bs) v)
+      × PlaceSays w' (book.places ++ fresh) y (find (stands.short ++ settled (suc s.entries) cs) v)
   place_word v a h = ⊎_elim
       (λ (t : Listed book.places v a).
       let m = stands.says.is_made v a t in
       let t' : PlaceAt book m.0 a = subst (λ (u : Variable). Listed book.places u a) m.1 t in
-      let r = place_says m.0 a t' (find s.bound (made m.0)) (find (settled (suc s.entries) bs) (made m.0)) refl refl in
+      let r = place_says m.0 a t' (find stands.short (made m.0)) (find (settled (suc s.entries) cs) (made m.0)) refl refl in
       subst (λ (u : Variable). (y : ℕ) × (w' a ≡ Some y)
-      × PlaceSays w' (book.places ++ fresh) y (find (s.bound ++ settled (suc s.entries) bs) u)) (sym m.1)
-      (r.0, r.1, subst (PlaceSays w' (book.places ++ fresh) r.0) (sym (find-append s.bound (settled (suc s.entries) bs) (made m.0))) r.2))
+      × PlaceSays w' (book.places ++ fresh) y (find (stands.short ++ settled (suc s.entries) cs) u)) (sym m.1) (
+        r.0,
+        r.1,
+        subst (PlaceSays w' (book.places ++ fresh) r.0)
+            (sym (find-append stands.short (settled (suc s.entries) cs) (made m.0))) r.2,
+      ))
       (λ (t : Listed fresh v a). let r = eff.fresh_word v a t in (r.0, r.1, fresh_says r.0 _ r.2))
       (listed_either book.places fresh v a h)
 
@@ -205,13 +205,13 @@ module _ (book : Book) (fresh : Addresses) (born : List ℕ) (s : State) (p : �
       true≢false (sym (denotes_final w' (book.places ++ fresh) y t h) ∙ ap is_final_in (ap decoded (same_Some _ _ (sym at ∙ is.1)) ∙ is.2))
 
   still_free : (j : Place) (a e : ℕ) → PlaceAt book j a → At w' a (Unbound e) → (o v : Option (Term Variable))
-      → find s.bound (made j) ≡ o → find (settled (suc s.entries) bs) (made j) ≡ v → At w a (Unbound e)
+      → find stands.short (made j) ≡ o → find (settled (suc s.entries) cs) (made j) ≡ v → At w a (Unbound e)
   still_free j a e h is (Some t) v eo ev = let r = place_says j a h (Some t) v eo ev in absurd (not_free a e r.0 t is r.1 r.2)
   still_free j a e h is None (Some t) eo ev = let r = eff.binds j a t h eo ev in absurd (not_free a e r.0 t is r.1 r.2)
   still_free j a e h is None None eo ev = (is.0, sym (eff.leaves j a h eo ev) ∙ is.1, is.2)
 
   fresh_free : (v : Variable) (a e : ℕ) → Listed fresh v a → At w' a (Unbound e) → e ≡ 0
-  fresh_free v a e h is = let r = eff.fresh_word v a h in go r.0 r.1 (find (s.bound ++ settled (suc s.entries) bs) v) r.2
+  fresh_free v a e h is = let r = eff.fresh_word v a h in go r.0 r.1 (find (stands.short ++ settled (suc s.entries) cs) v) r.2
     where
       go : (y : ℕ) → w' a ≡ Some y → (o : Option (Term Variable)) → FreshSays w' (book.places ++ fresh) y o → e ≡ 0
       go y at (Some t) says = absurd (not_free a e y t is at says)
@@ -221,7 +221,7 @@ module _ (book : Book) (fresh : Addresses) (born : List ℕ) (s : State) (p : �
       → Left j a e hs
   list_was j a e hs h is chain = ⊎_elim
       (λ (t : PlaceAt book j a).
-      let was_is = still_free j a e t is (find s.bound (made j)) (find (settled (suc s.entries) bs) (made j)) refl refl in
+      let was_is = still_free j a e t is (find stands.short (made j)) (find (settled (suc s.entries) cs) (made j)) refl refl in
       let o = stands.lists j a e t was_is in
       let eq : o.0 ≡ hs = hangs_one w' e o.0 hs (hangs_on w w' book.places (book.places ++ fresh) eff.grows more e o.0 o.1) chain in
       left t was_is (subst (Hangs w e) eq o.1))
@@ -231,7 +231,7 @@ module _ (book : Book) (fresh : Addresses) (born : List ℕ) (s : State) (p : �
   lists_kept : (j : Place) (a e : ℕ) → Listed (book.places ++ fresh) (made j) a → At w' a (Unbound e) → (hs : WordList) × Hangs w' e hs
   lists_kept j a e h is = ⊎_elim
       (λ (t : PlaceAt book j a).
-      let was_is = still_free j a e t is (find s.bound (made j)) (find (settled (suc s.entries) bs) (made j)) refl refl in
+      let was_is = still_free j a e t is (find stands.short (made j)) (find (settled (suc s.entries) cs) (made j)) refl refl in
       let o = stands.lists j a e t was_is in (o.0, hangs_on w w' book.places (book.places ++ fresh) eff.grows more e o.0 o.1))
       (λ (t : Listed fresh (made j) a). ([], fresh_free (made j) a e t is))
       (listed_either book.places fresh (made j) a h)
@@ -313,7 +313,7 @@ module _ (book : Book) (fresh : Addresses) (born : List ℕ) (s : State) (p : �
       go : (o : Option (Term Variable)) → find s.bound (made j) ≡ o → found_or o (find (settled (suc s.entries) bs) (made j)) ≡ Some t
           → j.entry ≤ suc s.entries
       go (Some u) i f = let le = stands.dated_bound j u i in omega arith
-      go None i f = settled_before (suc s.entries) bs j t (λ k u g. let le = eff.bound_old k u g in omega arith) f
+      go None i f = settled_before (suc s.entries) bs j t known.before f
 
   fresh_new : (v u : Variable) (a b : ℕ) → Listed book.places v a → Listed fresh u b → (v ≡ u → ⊥) × (a ≡ b → ⊥)
   fresh_new v u a b h k = (
@@ -331,7 +331,7 @@ module _ (book : Book) (fresh : Addresses) (born : List ℕ) (s : State) (p : �
   places_once v u a b (inr h) (inl k) = let r = fresh_new u v b a k h in ((λ e. absurd (r.0 (sym e))), (λ e. absurd (r.1 (sym e))))
   places_once v u a b (inr h) (inr k) = eff.fresh_once v u a b h k
 
-  says_on : PlacesStand w' (book.places ++ fresh) (s.bound ++ settled (suc s.entries) bs)
+  says_on : PlacesStand w' (book.places ++ fresh) (stands.short ++ settled (suc s.entries) cs)
   says_on = record {
     is_made =
         λ v a h. ⊎_elim (λ (t : Listed book.places v a). stands.says.is_made v a t)
@@ -362,6 +362,8 @@ module _ (book : Book) (fresh : Addresses) (born : List ℕ) (s : State) (p : �
         let g = length-append (map (λ q. wake bs (with_status x.name finished q)) s.processes) (children_of (suc s.entries) c) in
         omega arith);
     once = λ q r y z h i. once_kept q r y z (origin q y h) (origin r z i);
+    short = stands.short ++ settled (suc s.entries) cs;
+    shortened = shortened_after (suc s.entries) s.bound bs known stands.short cs stands.shortened eff.leads;
     says = says_on;
     process = λ q y h. process_says q y (was q y h);
     statuses = λ a d is. ⊎_elim
@@ -379,6 +381,7 @@ module _ (book : Book) (fresh : Addresses) (born : List ℕ) (s : State) (p : �
     own_free = λ i. find-append s.bound (settled (suc s.entries) bs) (own i)
         ∙ ap (λ (o : Option (Term Variable)). found_or o (find (settled (suc s.entries) bs) (own i))) (stands.own_free i)
         ∙ find-settled_free (suc s.entries) bs i;
+    own_absent = absent_after (suc s.entries) s.bound bs known;
     dated_places = dated_place;
     dated_bound = dated_binding;
     dated_processes = λ q y h. dated_kept q y (was q y h);

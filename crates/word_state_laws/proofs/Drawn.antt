@@ -23,6 +23,7 @@ use Rattle.word_states.specs.Words.{At, Among, row}
 use Rattle.word_states.specs.Denoting.{Listed}
 use Rattle.word_states.specs.Standing.{PlacesStand, ProcessSays, ProcessAt, PlaceAt, Hangs, variable_code}
 use Rattle.word_states.proofs.Lists.{word_among}
+use Rattle.word_states.proofs.Leading.{goal_leads_here}
 use Rattle.word_states.proofs.Persisting.{one_cell, hangs_one}
 use Rattle.word_state_laws.specs.Example.{drawn_cells, drawn, drawn_state, drawn_book, AnExampleStands}
 
@@ -161,28 +162,36 @@ once p q x y (inr (inr h)) k = elim h [ ]
 raw_at : (a n : ℕ) → drawn a ≡ Some (encoded (Raw n)) → n < 10 → At drawn a (Raw n)
 raw_at a n e l = (encoded (Raw n), e, decoded_encoded (Raw n) (omega (arith, l)))
 
-first_says : ProcessSays drawn drawn_book.places 1 3 first
+first_says : ProcessSays drawn drawn_book.places [] 1 3 first
 first_says = record {
   status = (first_at.0, first_at.1, (1, first_at.2, omega arith));
   name = (encoded (Small (pos 1)), refl, decoded_encoded (Small (pos 1)) (small_ok 1 (omega arith)));
-  goal = (
-    raw_at 5 0 refl (omega arith),
-    raw_at 6 1 refl (omega arith),
-    (encoded (RoRef 2), refl, (2, decoded_encoded (RoRef 2) (omega arith), inl refl), tt),
-    omega arith,
-  );
+  goal = record {
+    goal = first.goal;
+    leads = goal_leads_here [] first.goal;
+    says = (
+      raw_at 5 0 refl (omega arith),
+      raw_at 6 1 refl (omega arith),
+      (encoded (RoRef 2), refl, (2, decoded_encoded (RoRef 2) (omega arith), inl refl), tt),
+      omega arith,
+    );
+  };
 }
 
-second_says : ProcessSays drawn drawn_book.places 1 8 second
+second_says : ProcessSays drawn drawn_book.places [] 1 8 second
 second_says = record {
   status = (encoded (cell.Status stand.Ready), refl, decoded_encoded (cell.Status stand.Ready) tt);
   name = (encoded (Small (pos 2)), refl, decoded_encoded (Small (pos 2)) (small_ok 2 (omega arith)));
-  goal = (
-    raw_at 10 1 refl (omega arith),
-    raw_at 11 1 refl (omega arith),
-    (encoded (Ref 2), refl, (2, decoded_encoded (Ref 2) (omega arith), inl refl), tt),
-    omega arith,
-  );
+  goal = record {
+    goal = second.goal;
+    leads = goal_leads_here [] second.goal;
+    says = (
+      raw_at 10 1 refl (omega arith),
+      raw_at 11 1 refl (omega arith),
+      (encoded (Ref 2), refl, (2, decoded_encoded (Ref 2) (omega arith), inl refl), tt),
+      omega arith,
+    );
+  };
 }
 
 -- the place is the one on which the first process waits
@@ -227,8 +236,10 @@ an_example_stands = record {
   places = refl;
   processes = refl;
   once = once;
+  short = [];
+  shortened = tt;
   says = says;
-  process = of_both (λ p x. ProcessSays drawn drawn_book.places 1 p x) first_says second_says;
+  process = of_both (λ p x. ProcessSays drawn drawn_book.places [] 1 p x) first_says second_says;
   statuses =
       λ a d is. a_status a d (among_cells 0 drawn_cells a is.0 (cell.Status d) all_ok
       (word_among (row 0 (map encoded drawn_cells)) a is.0 is.1) is.2);
@@ -241,6 +252,7 @@ an_example_stands = record {
   hung = hung;
   waits = waits;
   own_free = λ k. refl;
+  own_absent = λ v t n e. (let bad : None ≡ Some t = e in cc);
   dated_places = λ j a h. (let e : j.entry ≡ 0 = ap (λ (q : Place). q.entry) (the_one j a h) in omega arith);
   dated_bound = λ j t e. (let bad : None ≡ Some t = e in cc);
   dated_processes = of_both (λ p x. (x.name.entry ≤ 1) × (x.name.number < 268435456)) (omega arith, omega arith) (omega arith, omega arith);

@@ -1,16 +1,16 @@
 -- A commit, a hang and a fail that are decided are legal, and the words after them stand for the next state.
-use Rattle.std.proofs.Common.{◌≡◌, ◌⊎◌, ℕ, suc, Bool, true, false, List, [], ◌∷◌, refl, sym, ap, ◌∙◌, ⊎_elim, inl, inr, arith}
+use Rattle.std.proofs.Common.{◌≡◌, ◌⊎◌, ℕ, suc, Bool, true, false, List, [], ◌∷◌, refl, sym, ap, ◌∙◌, subst, ⊎_elim, inl, inr, arith}
 use Rattle.std.proofs.Common.{true≢false, Option, Some}
 use Rattle.std.specs.Prelude.{option_map}
 use Rattle.std.proofs.lemmas.Bool.{cases_Bool, cond-true, and_from, eq-eqb}
 use Rattle.fcp_model.specs.declared.run.Entry.{Entry}
 use Rattle.fcp_model.specs.declared.run.Entry.TheVariants.{Commit, Hang, Fail}
 use Rattle.fcp_model.specs.Places.{is_same_process, places_among}
-use Rattle.fcp_model.specs.Programs.{Program}
+use Rattle.fcp_model.specs.Programs.{Clause, Program}
 use Rattle.fcp_model.specs.Decisions.{Decision, commits, decides_fail, waits_on, decide, Decides}
 use Rattle.fcp_model.specs.Cells.{clause_used}
 use Rattle.fcp_model.specs.States.{ready, Process, State, is_running, is_ready, is_failed, process_named}
-use Rattle.fcp_model.specs.Events.{Event, event_of}
+use Rattle.fcp_model.specs.Events.{Event, event_of, after_commit}
 use Rattle.fcp_model.specs.Runs.{move, move_on, agreed, is_same_move}
 use Rattle.heap_words.specs.Trails.{WordList}
 use Rattle.word_states.specs.Words.{Words}
@@ -68,19 +68,21 @@ agrees e ev o h g = ap (agreed e) h ∙ cond-true _ _ _ g
 -- a commit that is laid
 pub commit_goes : {m : Program} {book : Book} {s : State} {p : ℕ} {x : Process} {k : ℕ} {binds : WordList} {ps : List (List ℕ)}
     {wakes : List ℕ} {f : ℕ → ℕ} {w w' : Words} → (known : LaidCommit m book s p x k binds ps wakes f w w') → is_running s.mode ≡ true
-    → GoesBy m (book_after book f (suc s.entries) ps) s x (commits k known.says.bindings known.says.reads) w'
-commit_goes {m = m} {book = book} {s = s} {p = p} {x = x} {k = k} {w = w} {w' = w'} known running = record {
+    → GoesBy m (book_after book f (suc s.entries) ps) s x (commits k known.bindings known.says.reads) w'
+commit_goes {m = m} {book = book} {s = s} {p = p} {x = x} {k = k} {ps = ps} {f = f} {w = w} {w' = w'} known running = record {
   legal = (
-    known.says.decides.0,
-    agrees (Commit x.name k) event (move known.says.decides.0 m s x.name)
-        (moves m book w s p x known.says.decides.0 _ known.stands known.parent known.was_ready running known.says.decides.1)
+    known.decides.0,
+    agrees (Commit x.name k) event (move known.decides.0 m s x.name)
+        (moves m book w s p x known.decides.0 _ known.stands known.parent known.was_ready running known.decides.1)
         (and_from _ _ (same_process_refl x.name) (eq-eqb k _ refl)),
   );
-  stands = commit_stands book _ _ s p x (clause_used m x.goal k) known.says.bindings w w' known.stands (commit_effect known);
+  stands = subst (λ (c : Option Clause). StandsFor (book_after book f (suc s.entries) ps) w' (after_commit s x.name c known.bindings))
+      (sym known.used) (commit_stands book _ _ s p x (clause_used m known.goal k) known.bindings known.says.bindings w w' known.stands
+      (commit_effect known));
 }
   where
     event : Event
-    event = event_of m s x (commits k known.says.bindings known.says.reads)
+    event = event_of m s x (commits k known.bindings known.says.reads)
 
 pub hang_goes : (m : Program) (book : Book) (s : State) (p : ℕ) (x : Process) (w w' : Words) (rs : List _) → StandsFor book w s
     → ProcessAt book s p x → x.status ≡ ready → is_running s.mode ≡ true → Decides m s.bound x.goal (waits_on rs)
@@ -101,6 +103,8 @@ fail_stands book w s stands = record {
   places = stands.places;
   processes = stands.processes;
   once = stands.once;
+  short = stands.short;
+  shortened = stands.shortened;
   says = stands.says;
   process =
       λ p x h. let r =
@@ -121,6 +125,7 @@ fail_stands book w s stands = record {
   hung = stands.hung;
   waits = stands.waits;
   own_free = stands.own_free;
+  own_absent = stands.own_absent;
   dated_places = λ j a h. let le = stands.dated_places j a h in omega arith;
   dated_bound = λ j t e. let le = stands.dated_bound j t e in omega arith;
   dated_processes = λ p x h. let r = stands.dated_processes p x h in let le = r.0 in (omega arith, r.1);

@@ -23,6 +23,7 @@ use Rattle.word_states.specs.Trials.{WaitSays}
 use Rattle.word_states.specs.Layouts.{HangLaid, link_word}
 use Rattle.word_states.specs.Effects.{EntryAt, HangEffect}
 use Rattle.word_states.proofs.Lists.{nat_same, member}
+use Rattle.word_states.proofs.Leading.{open_short}
 use Rattle.word_states.proofs.Persisting.{denotes_final, one_cell}
 
 module _ (m : Program) (book : Book) (s : State) (p : ℕ) (x : Process) (places : List ℕ) (entry : ℕ
@@ -49,7 +50,8 @@ module _ (m : Program) (book : Book) (s : State) (p : ℕ) (x : Process) (places
       let r = says.only a h in
       let g = says.all r.0 r.2 in
       let z = stands.says.word (made r.0) a r.1 in
-      let u : PlaceSays w book.places z.0 None = subst (PlaceSays w book.places z.0) g.3 z.2 in
+      let free = open_short s.bound s.bound stands.short (made r.0) stands.shortened g.3 in
+      let u : PlaceSays w book.places z.0 None = subst (PlaceSays w book.places z.0) free z.2 in
       (r.0, r.1, r.2, (u.0, (z.0, z.1, u.1)))
 
   soft : (a y : ℕ) (c : Cell) → At w a c → is_final_cell c ≡ false → w a ≡ Some y → is_final_word y ≡ true → ⊥
@@ -58,7 +60,7 @@ module _ (m : Program) (book : Book) (s : State) (p : ℕ) (x : Process) (places
   -- a place's word is neither a status nor a top
   place_word : (v : Variable) (a : ℕ) (c : Cell) → Listed book.places v a → At w a c → ((e : ℕ) → c ≡ Unbound e → ⊥)
       → is_final_cell c ≡ false → ⊥
-  place_word v a c h at not_free soft' = let z = stands.says.word v a h in go z.0 z.1 (find s.bound v) z.2
+  place_word v a c h at not_free soft' = let z = stands.says.word v a h in go z.0 z.1 (find stands.short v) z.2
     where
       go : (y : ℕ) → w a ≡ Some y → (o : Option (Term Variable)) → PlaceSays w book.places y o → ⊥
       go y e None u = not_free u.0 (one_cell w a _ _ at (y, e, u.1))

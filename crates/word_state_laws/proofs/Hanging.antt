@@ -18,7 +18,8 @@ use Rattle.word_states.specs.Words.{Words, At, Among}
 use Rattle.word_states.specs.Denoting.{Addresses, Listed}
 use Rattle.word_states.specs.Standing.{Book, PlacesStand, PlaceSays, Hangs, StandsAt, ProcessSays, StandsFor, ProcessAt, PlaceAt}
 use Rattle.word_states.specs.Effects.{EntryAt, HangEffect}
-use Rattle.word_states.proofs.Persisting.{denotes_final, one_cell, hangs_one, process_on, status_up, stands_map, map_stands, map_length}
+use Rattle.word_states.proofs.Leading.{process_on, open_short}
+use Rattle.word_states.proofs.Persisting.{denotes_final, one_cell, hangs_one, status_up, stands_map, map_stands, map_length}
 use Rattle.word_states.proofs.Persisting.{at_on, denotes_on, hangs_on}
 use Rattle.word_state_laws.proofs.Settling.{apart}
 
@@ -61,16 +62,18 @@ module _ (book : Book) (s : State) (p : ℕ) (x : Process) (ns : List Place) (w 
       (subst (ProcessAt book s q) (sym (cond-false _ _ _ t) ∙ r.2) r.1))
       (cases_Bool (is_same_process z.name x.name))
 
-  process_says : (q : ℕ) (y : Process) → Was q y → ProcessSays w' book.places (suc s.entries) q y
+  process_says : (q : ℕ) (y : Process) → Was q y → ProcessSays w' book.places s.bound (suc s.entries) q y
   process_says q y (hangs here is) =
-      subst (ProcessSays w' book.places (suc s.entries) q) (sym is)
-      (subst (λ (q : ℕ). ProcessSays w' book.places (suc s.entries) q (record x { status = waiting ns })) (sym here)
-      (process_on w w' book.places book.places s.entries (suc s.entries) p x (record x { status = waiting ns }) hang.grows same
+      subst (ProcessSays w' book.places s.bound (suc s.entries) q) (sym is)
+      (subst (λ (q : ℕ). ProcessSays w' book.places s.bound (suc s.entries) q (record x { status = waiting ns })) (sym here)
+      (process_on s.bound s.bound w w' book.places book.places s.entries (suc s.entries) p x (record x { status = waiting ns })
+      (λ v t e. e) hang.grows same
       (stands.process p x hang.parent) refl refl
       (hang.status.0, hang.status.1, (suc s.entries, hang.status.2, omega arith))))
   process_says q y (stays apart h) =
       let r = (stands.process q y h).status in
-      process_on w w' book.places book.places s.entries (suc s.entries) q y y hang.grows same (stands.process q y h) refl refl
+      process_on s.bound s.bound w w' book.places book.places s.entries (suc s.entries) q y y (λ v t e. e) hang.grows same
+      (stands.process q y h) refl refl
       (r.0, hang.others q y h apart ∙ r.1, status_up s.entries (suc s.entries) r.0 y.status (omega arith) r.2)
 
   -- the waiting list of a place after the hang: with the new entry where the process waits on the place
@@ -82,12 +85,16 @@ module _ (book : Book) (s : State) (p : ℕ) (x : Process) (ns : List Place) (w 
   new_chain : (e' e : ℕ) (ks : WordList) → EntryAt w' e' p (suc s.entries) e → Hangs w' e ks → Hangs w' e' ((p, suc s.entries) ∷ ks)
   new_chain e' e ks at h = (at.above, at.process, at.number, (e, at.link, h))
 
+  -- an unbound place is said to be unbound
+  open_said : (v : Variable) → find s.bound v ≡ None → find stands.short v ≡ None
+  open_said v = open_short s.bound s.bound stands.short v stands.shortened
+
   -- the list that a place had, where it is unbound
   had : (k : Place) (a : ℕ) → PlaceAt book k a → find s.bound (made k) ≡ None → (e : ℕ) × At w a (Unbound e)
       × ((ks : WordList) × Hangs w e ks)
   had k a h free =
       let r = stands.says.word (made k) a h in
-      let u : PlaceSays w book.places r.0 None = subst (PlaceSays w book.places r.0) free r.2 in
+      let u : PlaceSays w book.places r.0 None = subst (PlaceSays w book.places r.0) (open_said (made k) free) r.2 in
       let is : At w a (Unbound u.0) = (r.0, r.1, u.1) in
       (u.0, is, stands.lists k a u.0 h is)
 
@@ -114,22 +121,23 @@ module _ (book : Book) (s : State) (p : ℕ) (x : Process) (ns : List Place) (w 
   place_on y None says = says
   place_on y (Some t) says = denotes_on w w' book.places book.places hang.grows same y t says
 
-  place_says : (v : Variable) (a : ℕ) → Listed book.places v a → (y : ℕ) × (w' a ≡ Some y) × PlaceSays w' book.places y (find s.bound v)
+  place_says : (v : Variable) (a : ℕ) → Listed book.places v a
+      → (y : ℕ) × (w' a ≡ Some y) × PlaceSays w' book.places y (find stands.short v)
   place_says v a h =
       let m = stands.says.is_made v a h in
       let h' : PlaceAt book m.0 a = subst (λ (u : Variable). Listed book.places u a) m.1 h in
-      subst (λ (u : Variable). (y : ℕ) × (w' a ≡ Some y) × PlaceSays w' book.places y (find s.bound u)) (sym m.1) (⊎_elim
+      subst (λ (u : Variable). (y : ℕ) × (w' a ≡ Some y) × PlaceSays w' book.places y (find stands.short u)) (sym m.1) (⊎_elim
       (λ (t : is_listed m.0 ns ≡ true).
       let free = (hang.places m.0 t).1 in
       let o = had m.0 a h' free in
       let n = hang.hung m.0 a o.0 h' t o.1 in
-      (n.1.0, n.1.1, subst (PlaceSays w' book.places n.1.0) (sym free) (n.0, n.1.2)))
+      (n.1.0, n.1.1, subst (PlaceSays w' book.places n.1.0) (sym (open_said (made m.0) free)) (n.0, n.1.2)))
       (λ (t : is_listed m.0 ns ≡ false).
       let r = stands.says.word (made m.0) a h' in
-      (r.0, hang.apart m.0 a h' t ∙ r.1, place_on r.0 (find s.bound (made m.0)) r.2))
+      (r.0, hang.apart m.0 a h' t ∙ r.1, place_on r.0 (find stands.short (made m.0)) r.2))
       (cases_Bool (is_listed m.0 ns)))
 
-  says_on : PlacesStand w' book.places s.bound
+  says_on : PlacesStand w' book.places stands.short
   says_on = record {
     is_made = stands.says.is_made;
     name = λ v a h. let r = stands.says.name v a h in (r.0, at_on w w' book.places book.places hang.grows same (a - 1) _ r.1 refl);
@@ -221,6 +229,8 @@ module _ (book : Book) (s : State) (p : ℕ) (x : Process) (ns : List Place) (w 
     places = stands.places;
     processes = stands.processes ∙ sym (map_length (with_status x.name (waiting ns)) s.processes);
     once = λ q r y z h k. once_kept q r y z (was q y h) (was r z k);
+    short = stands.short;
+    shortened = stands.shortened;
     says = says_on;
     process = λ q y h. process_says q y (was q y h);
     statuses = λ a d is. let r = hang.statuses a d is in let o = stands.statuses a r.0 r.1 in become a o.0 o.1;
@@ -229,6 +239,7 @@ module _ (book : Book) (s : State) (p : ℕ) (x : Process) (ns : List Place) (w 
     hung = λ k a e hs h is chain q n y ms at st says. hung_kept k a e hs h (list_was k a e hs h is chain) q n y ms (was q y at) st says;
     waits = λ q y ms j h st t. waits_kept q y ms j (was q y h) st t;
     own_free = stands.own_free;
+    own_absent = stands.own_absent;
     dated_places = λ j a h. let le = stands.dated_places j a h in omega arith;
     dated_bound = λ j t e. let le = stands.dated_bound j t e in omega arith;
     dated_processes = λ q y h. dated_kept q y (was q y h);

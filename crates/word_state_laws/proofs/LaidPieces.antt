@@ -5,6 +5,7 @@ use Rattle.std.specs.Prelude.{slice_get}
 use Rattle.std.proofs.lemmas.Bool.{cond-true, cond-false}
 use Rattle.std.proofs.lemmas.Option.{same_Some}
 use Rattle.fcp_model.specs.Places.{Variable, own, proc}
+use Rattle.fcp_model.specs.Terms.{Bindings}
 use Rattle.fcp_model.specs.Programs.{Goal, rename_goal}
 use Rattle.fcp_model.specs.States.{ready, Process, processes_of}
 use Rattle.heap_words.specs.Cells.{decoded, IsCell, is_final_word, is_final_in, is_final_cell}
@@ -13,7 +14,8 @@ use Rattle.heap_words.specs.declared.cell.Cell.TheVariants.{Unbound, Ref, RoRef,
 use Rattle.heap_words.proofs.Encodings.{decoded_encoded, encoded_decoded}
 use Rattle.heap_words.specs.declared.cell.Cell.TheVariants as cell
 use Rattle.word_states.specs.Words.{Words, StandAt}
-use Rattle.word_states.specs.Denoting.{Addresses, GoalSays}
+use Rattle.word_states.specs.Denoting.{Addresses}
+use Rattle.word_states.specs.Leading.{GoalStands}
 use Rattle.word_states.specs.Standing.{StandsAt}
 use Rattle.word_states.specs.Pieces.{is_place, is_process, process_words, AreFinal, IsPiece, a_place, a_pair, a_tuple, a_wide, a_process}
 use Rattle.word_states.specs.Pieces.{ChildrenSay}
@@ -156,30 +158,31 @@ laid_get f n k i p d x (a_process g h r m xs q hg hr size fin) e =
     subst (λ (l : List ℕ). (y : ℕ) × (slice_get (laid_piece f n k i l) d ≡ Some y) × LaidAs f n k i l d x y) (sym q)
     (process_get f n k i (g ∷ r ∷ xs) d x (raw_final g h hg, (raw_final r m hr, fin)) (ap (λ (l : List ℕ). slice_get l d) (sym q) ∙ e) refl)
 
-pub child_at : (f : ℕ → ℕ) (n : ℕ) (r : ℕ → Variable) (w : Words) (vs : Addresses) (k i b : ℕ) (ps : List (List ℕ)) (gs : List (Goal ℕ))
-    (q : ℕ) (y : Process) → ChildrenSay w vs (process_words b ps) gs
+pub child_at : (f : ℕ → ℕ) (n : ℕ) (r : ℕ → Variable) (w : Words) (vs : Addresses) (bs : Bindings) (k i b : ℕ)
+    (ps : List (List ℕ)) (gs : List (Goal ℕ))
+    (q : ℕ) (y : Process) → ChildrenSay w vs bs (process_words b ps) gs
     → StandsAt (map f (process_words b ps)) (processes_of n i (map (rename_goal r) gs)) q y
     → (k' i' s : ℕ) × (p : List ℕ) × (g : Goal ℕ) × Located k i b ps k' i' s p × (is_process p ≡ true) × (f s ≡ q)
-    × (record { name = proc n i'; goal = rename_goal r g; status = ready } ≡ y) × GoalSays w vs s (rename_goal own g)
-child_at f n r w vs k i b [] gs q y c h = absurd h
-child_at f n r w vs k i b (o ∷ os) gs q y c h =
-    go (is_process o) refl gs c h (λ l hs d g. child_at f n r w vs (next_place k o) l (b + length o) os hs q y d g)
+    × (record { name = proc n i'; goal = rename_goal r g; status = ready } ≡ y) × GoalStands w vs bs s (rename_goal own g)
+child_at f n r w vs bs k i b [] gs q y c h = absurd h
+child_at f n r w vs bs k i b (o ∷ os) gs q y c h =
+    go (is_process o) refl gs c h (λ l hs d g. child_at f n r w vs bs (next_place k o) l (b + length o) os hs q y d g)
   where
     Found : Type 0
     Found =
         (k' i' s : ℕ) × (p : List ℕ) × (g : Goal ℕ) × Located k i b (o ∷ os) k' i' s p × (is_process p ≡ true) × (f s ≡ q)
-        × (record { name = proc n i'; goal = rename_goal r g; status = ready } ≡ y) × GoalSays w vs s (rename_goal own g)
+        × (record { name = proc n i'; goal = rename_goal r g; status = ready } ≡ y) × GoalStands w vs bs s (rename_goal own g)
 
     go : (t : Bool) → is_process o ≡ t → (hs : List (Goal ℕ))
-        → ChildrenSay w vs (cond t (b ∷ process_words (b + length o) os) (process_words (b + length o) os)) hs
+        → ChildrenSay w vs bs (cond t (b ∷ process_words (b + length o) os) (process_words (b + length o) os)) hs
         → StandsAt (map f (cond t (b ∷ process_words (b + length o) os) (process_words (b + length o) os)))
         (processes_of n i (map (rename_goal r) hs)) q y
-        → ((l : ℕ) (hs : List (Goal ℕ)) → ChildrenSay w vs (process_words (b + length o) os) hs
+        → ((l : ℕ) (hs : List (Goal ℕ)) → ChildrenSay w vs bs (process_words (b + length o) os) hs
         → StandsAt (map f (process_words (b + length o) os)) (processes_of n l (map (rename_goal r) hs)) q y
         → (k' i' s : ℕ) × (p : List ℕ) × (g : Goal ℕ) × Located (next_place k o) l (b + length o) os k' i' s p × (is_process p ≡ true)
-        × (f s ≡ q) × (record { name = proc n i'; goal = rename_goal r g; status = ready } ≡ y) × GoalSays w vs s (rename_goal own g))
+        × (f s ≡ q) × (record { name = proc n i'; goal = rename_goal r g; status = ready } ≡ y) × GoalStands w vs bs s (rename_goal own g))
         → (k' i' s : ℕ) × (p : List ℕ) × (g : Goal ℕ) × Located k i b (o ∷ os) k' i' s p × (is_process p ≡ true) × (f s ≡ q)
-        × (record { name = proc n i'; goal = rename_goal r g; status = ready } ≡ y) × GoalSays w vs s (rename_goal own g)
+        × (record { name = proc n i'; goal = rename_goal r g; status = ready } ≡ y) × GoalStands w vs bs s (rename_goal own g)
     go true u [] c h F = absurd c
     go true u (g ∷ hs) c (inl h) F = (k, i, b, o, g, inl (refl, refl, refl, refl), u, h.0, h.1, c.0)
     go true u (g ∷ hs) c (inr h) F =
@@ -209,17 +212,18 @@ child_at f n r w vs k i b (o ∷ os) gs q y c h =
           z.9,
         )
 
-pub child_of : (f : ℕ → ℕ) (n : ℕ) (r : ℕ → Variable) (w : Words) (vs : Addresses) (k i b : ℕ) (ps : List (List ℕ)) (gs : List (Goal ℕ))
-    (k' i' s : ℕ) (p : List ℕ) → ChildrenSay w vs (process_words b ps) gs → Located k i b ps k' i' s p → is_process p ≡ true
+pub child_of : (f : ℕ → ℕ) (n : ℕ) (r : ℕ → Variable) (w : Words) (vs : Addresses) (bs : Bindings) (k i b : ℕ)
+    (ps : List (List ℕ)) (gs : List (Goal ℕ))
+    (k' i' s : ℕ) (p : List ℕ) → ChildrenSay w vs bs (process_words b ps) gs → Located k i b ps k' i' s p → is_process p ≡ true
     → (y : Process) × StandsAt (map f (process_words b ps)) (processes_of n i (map (rename_goal r) gs)) (f s) y
-child_of f n r w vs k i b [] gs k' i' s p c h e = absurd h
-child_of f n r w vs k i b (o ∷ os) gs k' i' s p c h e =
-    go (is_process o) refl gs c h (λ l hs d g. child_of f n r w vs (next_place k o) l (b + length o) os hs k' i' s p d g e)
+child_of f n r w vs bs k i b [] gs k' i' s p c h e = absurd h
+child_of f n r w vs bs k i b (o ∷ os) gs k' i' s p c h e =
+    go (is_process o) refl gs c h (λ l hs d g. child_of f n r w vs bs (next_place k o) l (b + length o) os hs k' i' s p d g e)
   where
     go : (t : Bool) → is_process o ≡ t → (hs : List (Goal ℕ))
-        → ChildrenSay w vs (cond t (b ∷ process_words (b + length o) os) (process_words (b + length o) os)) hs
+        → ChildrenSay w vs bs (cond t (b ∷ process_words (b + length o) os) (process_words (b + length o) os)) hs
         → Located k i b (o ∷ os) k' i' s p
-        → ((l : ℕ) (hs : List (Goal ℕ)) → ChildrenSay w vs (process_words (b + length o) os) hs
+        → ((l : ℕ) (hs : List (Goal ℕ)) → ChildrenSay w vs bs (process_words (b + length o) os) hs
         → Located (next_place k o) l (b + length o) os k' i' s p → (y : Process)
         × StandsAt (map f (process_words (b + length o) os)) (processes_of n l (map (rename_goal r) hs)) (f s) y)
         → (y : Process) × StandsAt (map f (cond t (b ∷ process_words (b + length o) os) (process_words (b + length o) os)))

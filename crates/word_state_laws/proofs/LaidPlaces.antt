@@ -1,5 +1,5 @@
 -- A commit that is laid: the old places and the new ones.
-use Rattle.std.proofs.Common.{◌≡◌, ℕ, suc, ◌+◌, ◌-◌, ◌<◌, ◌≤◌, true, false, List, [], ◌∷◌, ◌++◌, length, refl, sym, ap, ◌∙◌, subst}
+use Rattle.std.proofs.Common.{◌≡◌, ℕ, suc, ◌+◌, ◌-◌, ◌<◌, true, false, List, [], ◌∷◌, ◌++◌, length, refl, sym, ap, ◌∙◌, subst}
 use Rattle.std.proofs.Common.{⊎_elim, arith, true≢false, Option, Some, None}
 use Rattle.std.specs.Prelude.{slice_get, pos, option_map}
 use Rattle.std.proofs.lemmas.Option.{same_Some}
@@ -21,12 +21,14 @@ use Rattle.word_states.specs.Denoting.{Listed, Denotes}
 use Rattle.word_states.specs.Standing.{Book, PlaceSays, variable_code, FreshSays, ProcessAt, PlaceAt}
 use Rattle.word_states.specs.Pieces.{rows, place_words, numbered, with_own, with_variables}
 use Rattle.word_states.specs.Layouts.{moved, name_word, fresh_places}
+use Rattle.word_states.proofs.Leading.{open_short}
 use Rattle.word_states.proofs.Persisting.{denotes_final, one_cell}
 use Rattle.word_states.proofs.Pieces.{Located, located_starts, rows_in, zero_is, the_place, place_once, variable_at, place_number}
 use Rattle.word_state_laws.proofs.Moving.{denotes_moved}
 use Rattle.word_state_laws.proofs.LaidPieces.{becomes_moved, LaidAs, as_free, as_moved, as_place_name, as_process_name, as_status}
 use Rattle.word_state_laws.proofs.NewNames.{moved_listed, named}
 use Rattle.word_state_laws.proofs.Settling.{find-settled, find-settled_own}
+use Rattle.word_state_laws.proofs.SettledWays.{new_unbound}
 use Rattle.word_state_laws.proofs.LaidWords.{moves, LaidCommit, bound_free, laid_at, not_in, parent_is, row_of, status_at, word_ok}
 
 module _ {m : Program} {book : Book} {s : State} {p : ℕ} {x : Process} {k : ℕ} {binds : WordList} {ps : List (List ℕ)} {wakes : List ℕ}
@@ -49,7 +51,7 @@ module _ {m : Program} {book : Book} {s : State} {p : ℕ} {x : Process} {k : �
   pub before : (j : Place) (t : Term Variable) → find known.says.bindings (made j) ≡ Some t → j.entry < suc s.entries
   before j t e = let r = known.says.binds_all j t e in let le = known.stands.dated_places j r.0 r.2 in omega arith
 
-  pub binds' : (j : Place) (a : ℕ) (t : Term Variable) → PlaceAt book j a → find s.bound (made j) ≡ None
+  pub binds' : (j : Place) (a : ℕ) (t : Term Variable) → PlaceAt book j a → find known.stands.short (made j) ≡ None
       → find (settled (suc s.entries) known.says.bindings) (made j) ≡ Some t
       → (y : ℕ) × (w' a ≡ Some y) × Denotes w' (book.places ++ fresh_places f (suc s.entries) ps) y t
   binds' j a t h free e = go (find known.says.bindings (made j)) refl (sym (find-settled (suc s.entries) known.says.bindings j lt) ∙ e)
@@ -77,7 +79,7 @@ module _ {m : Program} {book : Book} {s : State} {p : ℕ} {x : Process} {k : �
       go None i = i
       go (Some v) i = let r = (bound_free known) a v i in absurd (g r.2.0 (one_cell w a _ _ h r.2.1))
 
-  pub leaves' : (j : Place) (a : ℕ) → PlaceAt book j a → find s.bound (made j) ≡ None
+  pub leaves' : (j : Place) (a : ℕ) → PlaceAt book j a → find known.stands.short (made j) ≡ None
       → find (settled (suc s.entries) known.says.bindings) (made j) ≡ None → w' a ≡ w a
   leaves' j a h free e =
       let z = known.stands.says.word (made j) a h in
@@ -105,7 +107,7 @@ module _ {m : Program} {book : Book} {s : State} {p : ℕ} {x : Process} {k : �
           (find-settled (suc s.entries) known.says.bindings j (omega arith)) ∙ e) in
           let bad : Some r.3.0 ≡ None = sym r.3.1 ∙ ap (find known.says.bindings) same ∙ none' in cc
 
-  pub others' : (q : ℕ) (y : Process) → ProcessAt book s q y → (q ≡ p → ⊥) → is_woken known.says.bindings y.status ≡ false → w' q ≡ w q
+  pub others' : (q : ℕ) (y : Process) → ProcessAt book s q y → (q ≡ p → ⊥) → is_woken known.bindings y.status ≡ false → w' q ≡ w q
   others' q y at far u =
       let st = (status_at known) q y at in
       ⊎_elim (λ (g : w' q ≡ Some st.1.0). g ∙ sym st.1.1)
@@ -113,7 +115,7 @@ module _ {m : Program} {book : Book} {s : State} {p : ℕ} {x : Process} {k : �
       (sym st.1.2 ∙ g.2) in cc)
       (known.laid.others q st.1.0 st.1.1 far (not_bound' q (cell.Status st.0) st.1 (λ e g. cc))
       (λ i. let r = known.woken.only q i in let same : y ≡ r.0 = (known.stands.once q q y r.0 at r.1).1 refl in
-      true≢false (sym r.2 ∙ ap (λ (z : Process). is_woken known.says.bindings z.status) (sym same) ∙ u)))
+      true≢false (sym r.2 ∙ ap (λ (z : Process). is_woken known.bindings z.status) (sym same) ∙ u)))
 
   -- a new place
   pub fresh_at : (v : Variable) (a : ℕ) → Listed (fresh_places f (suc s.entries) ps) v a
@@ -200,34 +202,32 @@ module _ {m : Program} {book : Book} {s : State} {p : ℕ} {x : Process} {k : �
   pub fresh_word' : (v : Variable) (a : ℕ) → Listed (fresh_places f (suc s.entries) ps) v a
       → (y : ℕ) × (w' a ≡ Some y)
       × FreshSays w' (book.places ++ fresh_places f (suc s.entries) ps) y
-      (find (s.bound ++ settled (suc s.entries) known.says.bindings) v)
+      (find (known.stands.short ++ settled (suc s.entries) known.says.bindings) v)
   fresh_word' v a h =
       let g = fresh_at v a h in
       let z = (laid_at known) g.2 1 g.3 (0 ∷ g.3 ∷ []) g.0 g.1 g.6 refl (omega arith) in
       let e : suc g.2 ≡ g.2 + 1 = omega arith in
       let r = known.says.variable g.0 (suc g.2) g.7 in
       let same : r.0 ≡ g.3 = same_Some _ _ (sym r.1 ∙ word_after g.2 g.3 g.0 g.1 g.6) in
-      let o : find (s.bound ++ settled (suc s.entries) known.says.bindings) (placed (suc s.entries) g.0) ≡ option_map
+      let o : find (known.stands.short ++ settled (suc s.entries) known.says.bindings) (placed (suc s.entries) g.0) ≡ option_map
       (rename (settle (suc s.entries))) (find known.says.bindings (own g.0)) =
-      find-append s.bound (settled (suc s.entries) known.says.bindings) (placed (suc s.entries) g.0)
+      find-append known.stands.short (settled (suc s.entries) known.says.bindings) (placed (suc s.entries) g.0)
       ∙ ap (λ (t : Option (Term Variable)). found_or t (find (settled (suc s.entries) known.says.bindings)
-      (placed (suc s.entries) g.0))) (fresh_unbound g.0 (find s.bound (placed (suc s.entries) g.0)) refl)
+      (placed (suc s.entries) g.0))) (fresh_unbound g.0)
       ∙ find-settled_own (suc s.entries) known.says.bindings g.0 before in (
         z.0,
         ap w' (g.5 ∙ ap f e) ∙ z.1,
         subst (FreshSays w' (book.places ++ fresh_places f (suc s.entries) ps) z.0)
-            (sym (ap (find (s.bound ++ settled (suc s.entries) known.says.bindings)) g.4 ∙ o))
+            (sym (ap (find (known.stands.short ++ settled (suc s.entries) known.says.bindings)) g.4 ∙ o))
             (go g.3 z.0 (find known.says.bindings (own g.0)) (suc g.2) (ap (λ (u : Option ℕ). first_of u (w (suc g.2)))
             (word_after g.2 g.3 g.0 g.1 g.6)) z.2
             (subst (λ (y : ℕ). FreshSays (with_own ps w) (with_variables ps book.places) y (find known.says.bindings (own g.0))) same
             r.2)),
       )
     where
-      fresh_unbound : (j : ℕ) (o : Option (Term Variable)) → find s.bound (placed (suc s.entries) j) ≡ o
-          → find s.bound (placed (suc s.entries) j) ≡ None
-      fresh_unbound j None i = i
-      fresh_unbound j (Some t) i =
-          let le : suc s.entries ≤ s.entries = known.stands.dated_bound (place (suc s.entries) j) t i in absurd (omega arith)
+      fresh_unbound : (j : ℕ) → find known.stands.short (placed (suc s.entries) j) ≡ None
+      fresh_unbound j = open_short s.bound s.bound known.stands.short (placed (suc s.entries) j) known.stands.shortened
+          (new_unbound known.stands j)
 
       not_free : (x : ℕ) → is_final_word x ≡ true → decoded x ≡ Some (Unbound 0) → ⊥
       not_free x fin d = true≢false (sym fin ∙ ap is_final_in d)

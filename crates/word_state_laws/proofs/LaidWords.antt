@@ -5,8 +5,10 @@ use Rattle.std.specs.Prelude.{slice_get}
 use Rattle.std.proofs.lemmas.Option.{same_Some}
 use Rattle.fcp_model.specs.declared.run.Place.{Place}
 use Rattle.fcp_model.specs.Places.{Variable, made}
-use Rattle.fcp_model.specs.Terms.{Term, find, settle}
-use Rattle.fcp_model.specs.Programs.{Program}
+use Rattle.fcp_model.specs.Terms.{Term, Bindings, find, settle}
+use Rattle.fcp_model.specs.Programs.{Goal, Program}
+use Rattle.fcp_model.specs.Decisions.{commits, Decides}
+use Rattle.fcp_model.specs.Cells.{clause_used}
 use Rattle.fcp_model.specs.States.{Status, ready, waiting, finished, Process, State}
 use Rattle.heap_words.specs.Cells.{decoded, is_final_word, is_final_in, is_final_cell}
 use Rattle.heap_words.specs.Refers.{parts}
@@ -18,6 +20,7 @@ use Rattle.heap_words.specs.declared.cell.Cell.TheVariants as cell
 use Rattle.heap_words.specs.declared.cell.Stand.TheVariants as stand
 use Rattle.word_states.specs.Words.{Words, At, first_of, Grows, IsIn}
 use Rattle.word_states.specs.Denoting.{Listed}
+use Rattle.word_states.specs.Leading.{BindingsLead}
 use Rattle.word_states.specs.Standing.{Book, StandsFor, PlaceSays, StatusSays, ProcessAt, PlaceAt}
 use Rattle.word_states.specs.Pieces.{rows, StartsAt, place_words, numbered, RefersOwn, with_own, with_variables}
 use Rattle.word_states.specs.Formed.{AreFormed, IsOld, IsRooted}
@@ -32,7 +35,8 @@ use Rattle.word_state_laws.proofs.LaidPieces.{laid_of, stand_get, becomes_moved,
 use Rattle.word_state_laws.proofs.LaidPieces.{as_process_name, as_status}
 use Rattle.word_state_laws.proofs.NewNames.{listed_moved}
 
--- What is known of a commit that is laid: the words stand for the state, the process at p is Ready there, and a trial says the commit.
+-- What is known of a commit that is laid: the words stand for the state, the process at p is Ready there, and a trial says the commit of
+-- the goal that the words say. The decision for the state's own goal is the same but for ways of its bindings.
 pub record LaidCommit (m : Program) (book : Book) (s : State) (p : ℕ) (x : Process) (k : ℕ) (binds : WordList) (ps : List (List ℕ))
     (wakes : List ℕ) (f : ℕ → ℕ) (w w' : Words) : Type 0 where
   pub stands : StandsFor book w s
@@ -42,8 +46,13 @@ pub record LaidCommit (m : Program) (book : Book) (s : State) (p : ℕ) (x : Pro
   pub low : (a y : ℕ) → w a ≡ Some y → a < 4000000000
   pub old : (a y : ℕ) → w a ≡ Some y → IsOld w y
   pub formed : AreFormed w binds ps
-  pub says : CommitSays m w book.places s.bound x.goal k binds ps
-  pub woken : AreWoken book s says.bindings wakes
+  pub goal : Goal Variable
+  pub says : CommitSays m w book.places stands.short goal k binds ps
+  pub bindings : Bindings
+  pub decides : Decides m s.bound x.goal (commits k bindings says.reads)
+  pub leads : BindingsLead (s.bound ++ bindings) bindings says.bindings
+  pub used : clause_used m x.goal k ≡ clause_used m goal k
+  pub woken : AreWoken book s bindings wakes
   pub laid : CommitLaid f (suc s.entries) p binds ps wakes w w'
 
 module _ {m : Program} {book : Book} {s : State} {p : ℕ} {x : Process} {k : ℕ} {binds : WordList} {ps : List (List ℕ)} {wakes : List ℕ}

@@ -2,6 +2,8 @@ pub mod Moving
 pub mod LaidPieces
 pub mod NewNames
 pub mod Settling
+pub mod Onward
+pub mod SettledWays
 pub mod Hanging
 pub mod Appended
 pub mod Committing

@@ -1,6 +1,8 @@
 -- The laws: what an entry does to a heap of words that stands for a state.
 use Rattle.std.specs.Prelude.{◌≡◌, ℕ, suc, ◌<◌, true, List, ◌++◌, Some}
-use Rattle.fcp_model.specs.Decisions.{Decision, commits, decides_fail, waits_on}
+use Rattle.fcp_model.specs.Decisions.{Decision, commits, decides_fail, waits_on, Decides}
+use Rattle.fcp_model.specs.Places.{Variable}
+use Rattle.fcp_model.specs.Terms.{Bindings}
 use Rattle.fcp_model.specs.Events.{event_of}
 use Rattle.fcp_model.specs.Programs.{Program}
 use Rattle.fcp_model.specs.Runs.{next, entry_decided}
@@ -10,7 +12,7 @@ use Rattle.heap_words.specs.Trails.{WordList}
 use Rattle.heap_words.specs.declared.cell.Cell.TheVariants.{Unbound}
 use Rattle.word_states.specs.Words.{Words, At, Has, Among, HasAll, addresses_of, over}
 use Rattle.word_states.specs.Standing.{Book, StandsFor, ProcessAt}
-use Rattle.word_states.specs.Trials.{CommitSays, WaitSays, FailSays, TriedCommit, TriedWait, TriedFail, IsReadCommit}
+use Rattle.word_states.specs.Trials.{places_bound, AreAt, WaitSays, FailSays, TriedCommit, TriedWait, TriedFail, IsReadCommit}
 use Rattle.word_states.specs.Waking.{AreByName, ReadWakes, AreWoken}
 use Rattle.word_states.specs.Layouts.{CommitLaid, HangLaid, fresh_places, born_at}
 use Rattle.word_states.specs.Planning.{commit_writes, IsPlanned, hang_writes, IsHangPlanned}
@@ -37,13 +39,19 @@ pub record GoesBy (m : Program) (book' : Book) (s : State) (x : Process) (d : De
 abbrev pub book_after : Book → (ℕ → ℕ) → ℕ → List (List ℕ) → Book
 book_after book f n ps = record { places = book.places ++ fresh_places f n ps; processes = book.processes ++ born_at f ps }
 
--- The commit of the process x goes, with what the try said of the words w; the woken are those that its bindings wake, by name.
+-- The commit of the process x goes: by its decision, whose bindings bind the places at these addresses, in this order; the woken are those
+-- that they wake, by name.
 pub record CommitGoes (m : Program) (book : Book) (s : State) (x : Process) (k : ℕ) (binds : WordList) (ps : List (List ℕ))
-    (wakes : List ℕ) (f : ℕ → ℕ) (w w' : Words) : Type 0 where
-  pub says : CommitSays m w book.places s.bound x.goal k binds ps
-  pub woken : AreWoken book s says.bindings wakes
+    (wakes : List ℕ) (f : ℕ → ℕ) (w' : Words) : Type 0 where
+  -- what the definitions decide for the goal
+  pub bindings : Bindings
+  pub reads : List Variable
+  pub decides : Decides m s.bound x.goal (commits k bindings reads)
+  -- what the bindings bind and wake
+  pub order : AreAt book.places (addresses_of binds) (places_bound bindings)
+  pub woken : AreWoken book s bindings wakes
   pub by_name : AreByName book s wakes
-  pub goes : GoesBy m (book_after book f (suc s.entries) ps) s x (commits k says.bindings says.reads) w'
+  pub goes : GoesBy m (book_after book f (suc s.entries) ps) s x (commits k bindings reads) w'
 
 -- Where a trial says a commit, and waiting lists say whom its bindings wake, by words that stand, the commit is legal, and the words
 -- after it is laid stand for the state after it.
@@ -52,7 +60,7 @@ ACommitGoes = (m : Program) (book : Book) (ws : List ℕ) (s : State) (p k : ℕ
     (ps : List (List ℕ)) (wakes : List ℕ) (f : ℕ → ℕ) (w' : Words) → MayMove book ws s p x
     → HasAll read (inside_at ws) → TriedCommit m read p k binds ps → IsReadCommit read binds ps → HasAll lists (inside_at ws)
     → ReadWakes lists (addresses_of binds) wakes
-    → CommitLaid f (suc s.entries) p binds ps wakes (inside_at ws) w' → CommitGoes m book s x k binds ps wakes f (inside_at ws) w'
+    → CommitLaid f (suc s.entries) p binds ps wakes (inside_at ws) w' → CommitGoes m book s x k binds ps wakes f w'
 
 -- and so it is for a hang, after which the book is the same
 abbrev pub AHangGoes : Type 0

@@ -1,4 +1,5 @@
 pub mod Lists
 pub mod Persisting
+pub mod Leading
 pub mod OneTerm
 pub mod Pieces

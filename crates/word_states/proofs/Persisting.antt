@@ -14,7 +14,7 @@ use Rattle.heap_words.specs.declared.cell.Cell.{Cell}
 use Rattle.heap_words.specs.declared.cell.Cell.TheVariants.{Ref, RoRef, Small, Wide, Nil, Cons, Tuple, Raw}
 use Rattle.word_states.specs.Words.{Words, At, Grows}
 use Rattle.word_states.specs.Denoting.{Addresses, Listed, Denotes, DenotesAll, Arguments, ExprSays, GoalSays}
-use Rattle.word_states.specs.Standing.{Hangs, LinkSays, StatusSays, StandsAt, ProcessSays}
+use Rattle.word_states.specs.Standing.{Hangs, LinkSays, StatusSays, StandsAt}
 
 pub final_of : (x : ℕ) (c : Cell) → decoded x ≡ Some c → is_final_cell c ≡ true → is_final_word x ≡ true
 final_of x c is h = ap is_final_in is ∙ h
@@ -137,17 +137,6 @@ hangs_one w e (z ∷ zs) (y ∷ ys) h k =
     links a l m (inl s) (inr t) = let e : Nil ≡ Cons m = one_cell w a _ _ s.0 t.0 in cc
     links a l m (inr s) (inl t) = let e : Cons l ≡ Nil = one_cell w a _ _ s.0 t.0 in cc
     links a l m (inr s) (inr t) = let e : Cons l ≡ Cons m = one_cell w a _ _ s.0 t.0 in cc
-
-pub process_on : (w w' : Words) (vs us : Addresses) (limit limit' p : ℕ) (x y : Process) → Grows w w'
-    → ((v : Variable) (a : ℕ) → Listed vs v a → Listed us v a) → ProcessSays w vs limit p x
-    → y.name ≡ x.name → y.goal ≡ x.goal → ((z : ℕ) × (w' p ≡ Some z) × StatusSays limit' z y.status) → ProcessSays w' us limit' p y
-process_on w w' vs us limit limit' p x y grows places h name goal says = record {
-  status = says;
-  name =
-      let r = at_on w w' vs us grows places (p + 1) (Small (pos _)) h.name refl in
-      (r.0, r.1, r.2 ∙ ap (λ n. Some (Small (pos (268435456 * n.entry + n.number)))) (sym name));
-  goal = subst (GoalSays w' us p) (sym goal) (goal_on w w' vs us grows places p x.goal h.goal);
-}
 
 pub status_up : (limit limit' x : ℕ) (st : Status) → limit ≤ limit' → StatusSays limit x st → StatusSays limit' x st
 status_up limit limit' x ready le h = h

@@ -4,6 +4,7 @@ use Rattle.std.proofs.Common.{inl, inr, arith, true≢false, Option, Some, None}
 use Rattle.std.specs.Prelude.{slice_get, nat_eq}
 use Rattle.std.proofs.lemmas.Bool.{cond-true, cond-false, ne_eqb}
 use Rattle.fcp_model.specs.Places.{Variable, own}
+use Rattle.fcp_model.specs.Terms.{Bindings}
 use Rattle.fcp_model.specs.Programs.{Goal}
 use Rattle.heap_words.specs.Cells.{decoded, is_final_word, is_final_in}
 use Rattle.heap_words.specs.Trails.{word_at}
@@ -265,8 +266,9 @@ process_number k i b (q ∷ qs) k' i' s p h e =
     go false u (inr g) f = f i (subst (λ (z : ℕ). Located (next_place k q) z (b + length q) qs k' i' s p) (cond-false _ _ _ u) g)
 
 -- the children
-pub children_size : (w : Words) (vs : Addresses) (qs : List ℕ) (gs : List (Goal ℕ)) → ChildrenSay w vs qs gs → length qs ≡ length gs
-children_size w vs [] [] h = refl
-children_size w vs [] (g ∷ gs) h = absurd h
-children_size w vs (q ∷ qs) [] h = absurd h
-children_size w vs (q ∷ qs) (g ∷ gs) h = ap suc (children_size w vs qs gs h.1)
+pub children_size : (w : Words) (vs : Addresses) (bs : Bindings) (qs : List ℕ) (gs : List (Goal ℕ)) → ChildrenSay w vs bs qs gs
+    → length qs ≡ length gs
+children_size w vs bs [] [] h = refl
+children_size w vs bs [] (g ∷ gs) h = absurd h
+children_size w vs bs (q ∷ qs) [] h = absurd h
+children_size w vs bs (q ∷ qs) (g ∷ gs) h = ap suc (children_size w vs bs qs gs h.1)

@@ -1,6 +1,7 @@
 pub mod Numbers
 pub mod Words
 pub mod Denoting
+pub mod Leading
 pub mod Standing
 pub mod Pieces
 pub mod Led

@@ -1,6 +1,7 @@
 -- The pieces of a try: its own words, one piece after another from 4,000,000,000 on.
 use Rattle.std.specs.Prelude.{◌≡◌, ◌⊎◌, ℕ, suc, ◌+◌, ℤ, Bool, true, false, List, [], ◌∷◌, ◌++◌, length, nat_eq, if◌then◌else◌, Some}
 use Rattle.fcp_model.specs.Places.{own}
+use Rattle.fcp_model.specs.Terms.{Bindings}
 use Rattle.fcp_model.specs.Programs.{Goal, rename_goal}
 use Rattle.heap_words.specs.Cells.{decoded, is_final_word}
 use Rattle.heap_words.specs.Refers.{parts}
@@ -8,7 +9,8 @@ use Rattle.heap_words.specs.Trails.{WordList}
 use Rattle.heap_words.specs.declared.cell.Cell.{Cell}
 use Rattle.heap_words.specs.declared.cell.Cell.TheVariants.{Ref, RoRef, Small, Wide, Cons, Tuple, Raw}
 use Rattle.word_states.specs.Words.{Words, over, row}
-use Rattle.word_states.specs.Denoting.{Addresses, GoalSays}
+use Rattle.word_states.specs.Denoting.{Addresses}
+use Rattle.word_states.specs.Leading.{GoalStands}
 
 -- the words of pieces one after another, the first at the address
 abbrev pub rows : ℕ → List (List ℕ) → WordList
@@ -80,8 +82,8 @@ with_own ps w = over (rows 4000000000 ps) w
 abbrev pub with_variables : List (List ℕ) → Addresses → Addresses
 with_variables ps vs = vs ++ numbered 1 (place_words 4000000000 ps)
 
--- the processes at these addresses have these goals of a clause
-abbrev pub ChildrenSay : Words → Addresses → List ℕ → List (Goal ℕ) → Type 0
-ChildrenSay w vs [] [] = Unit {0}
-ChildrenSay w vs (q ∷ qs) (g ∷ gs) = GoalSays w vs q (rename_goal own g) × ChildrenSay w vs qs gs
-ChildrenSay w vs _ _ = ⊥
+-- the processes at these addresses have goals to which these of a clause lead, by the bindings of its try
+abbrev pub ChildrenSay : Words → Addresses → Bindings → List ℕ → List (Goal ℕ) → Type 0
+ChildrenSay w vs bs [] [] = Unit {0}
+ChildrenSay w vs bs (q ∷ qs) (g ∷ gs) = GoalStands w vs bs q (rename_goal own g) × ChildrenSay w vs bs qs gs
+ChildrenSay w vs bs _ _ = ⊥

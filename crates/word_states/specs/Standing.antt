@@ -2,7 +2,7 @@
 use Rattle.std.specs.Prelude.{◌≡◌, ◌⊎◌, ◌↔◌, ℕ, ◌+◌, ◌-◌, ◌*◌, ◌<◌, ◌≤◌, pos, true, List, [], ◌∷◌, length, map, Option, Some, None}
 use Rattle.fcp_model.specs.declared.run.Place.{Place}
 use Rattle.fcp_model.specs.Places.{Variable, made, own, is_same_process, is_listed}
-use Rattle.fcp_model.specs.Terms.{Term, Bindings, find}
+use Rattle.fcp_model.specs.Terms.{Term, Bindings, find, rename, settle}
 use Rattle.fcp_model.specs.Reads.{BindsPlaces}
 use Rattle.fcp_model.specs.States.{Status, ready, waiting, finished, Process, State}
 use Rattle.heap_words.specs.Cells.{decoded}
@@ -12,7 +12,8 @@ use Rattle.heap_words.specs.declared.cell.Cell.TheVariants as cell
 use Rattle.heap_words.specs.declared.cell.Stand.TheVariants as stand
 use Rattle.heap_words.specs.declared.cell.Stand.{Stand}
 use Rattle.word_states.specs.Words.{Words, At, Among}
-use Rattle.word_states.specs.Denoting.{Addresses, Listed, Denotes, GoalSays}
+use Rattle.word_states.specs.Denoting.{Addresses, Listed, Denotes}
+use Rattle.word_states.specs.Leading.{AreShortened, GoalStands}
 
 -- the number in the name word of `_n.k` and of `#n.k`
 abbrev pub name_code : ℕ → ℕ → ℕ
@@ -59,13 +60,13 @@ StatusSays limit x ready = decoded x ≡ Some (cell.Status stand.Ready)
 StatusSays limit x finished = decoded x ≡ Some (cell.Status stand.Done)
 StatusSays limit x (waiting ps) = (n : ℕ) × (decoded x ≡ Some (cell.Status (stand.Waiting n))) × (n ≤ limit)
 
--- the words from p on are those of a process: its status, its name, its goal
-pub record ProcessSays (w : Words) (vs : Addresses) (limit p : ℕ) (q : Process) : Type 0 where
+-- the words from p on are those of a process: its status, its name, a goal to which its own leads
+pub record ProcessSays (w : Words) (vs : Addresses) (bound : Bindings) (limit p : ℕ) (q : Process) : Type 0 where
   -- its status stands at its address
   pub status : (x : ℕ) × (w p ≡ Some x) × StatusSays limit x q.status
-  -- then its name, and its goal
+  -- then its name, and the goal
   pub name : At w (p + 1) (Small (pos (name_code q.name.entry q.name.number)))
-  pub goal : GoalSays w vs p q.goal
+  pub goal : GoalStands w vs bound p q.goal
 
 -- the process x has the address p, where processes and their addresses are listed in one order
 abbrev pub StandsAt : List ℕ → List Process → ℕ → Process → Type 0
@@ -91,16 +92,19 @@ PlaceAt book j a = Listed book.places (made j) a
 abbrev pub OfLists : Book → Words → (Place → WordList → Type 0) → Type 0
 OfLists book w P = (j : Place) (a e : ℕ) (zs : WordList) → PlaceAt book j a → At w a (Unbound e) → Hangs w e zs → P j zs
 
--- The words in use stand for the state.
+-- The words in use stand for the state. A place's word and a process's arguments say terms to which the state's own lead, so a variable
+-- that is handed on from call to call is said in one step.
 pub record StandsFor (book : Book) (w : Words) (s : State) : Type 0 where
   -- the book has the places and the processes of the state, in order, and each process once
   pub places : map (λ b. b.0) book.places ≡ map made s.places
   pub processes : length book.processes ≡ length s.processes
   pub once : (p q : ℕ) (x y : Process) → ProcessAt book s p x → ProcessAt book s q y
       → (is_same_process x.name y.name ≡ true → p ≡ q) × (p ≡ q → x ≡ y)
-  -- their words say what they are
-  pub says : PlacesStand w book.places s.bound
-  pub process : (p : ℕ) (x : Process) → ProcessAt book s p x → ProcessSays w book.places s.entries p x
+  -- their words say what they are: the places stand for the state's bindings with shorter ways
+  pub short : Bindings
+  pub shortened : AreShortened s.bound short
+  pub says : PlacesStand w book.places short
+  pub process : (p : ℕ) (x : Process) → ProcessAt book s p x → ProcessSays w book.places s.bound s.entries p x
   -- no other word in use is a status
   pub statuses : (a : ℕ) (d : Stand) → At w a (cell.Status d) → (x : Process) × ProcessAt book s a x
   -- each unbound place has a waiting list
@@ -113,8 +117,10 @@ pub record StandsFor (book : Book) (w : Words) (s : State) : Type 0 where
   -- processes wait on unbound places of the state
   pub waits : (p : ℕ) (x : Process) (ps : List Place) (j : Place) → ProcessAt book s p x → x.status ≡ waiting ps
       → is_listed j ps ≡ true → ((a : ℕ) × PlaceAt book j a) × (find s.bound (made j) ≡ None)
-  -- places alone are bound
+  -- places alone are bound, and no variable of a clause that is tried stands in a term that is bound: each term stays as it is when such
+  -- variables get places
   pub own_free : BindsPlaces s.bound
+  pub own_absent : (v : Variable) (t : Term Variable) (n : ℕ) → find s.bound v ≡ Some t → rename (settle n) t ≡ t
   -- no name has an entry above the number of entries
   pub dated_places : (j : Place) (a : ℕ) → PlaceAt book j a → j.entry ≤ s.entries
   pub dated_bound : (j : Place) (t : Term Variable) → find s.bound (made j) ≡ Some t → j.entry ≤ s.entries

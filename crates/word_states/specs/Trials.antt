@@ -65,7 +65,7 @@ pub record CommitSays (m : Program) (w : Words) (vs : Addresses) (bound : Bindin
   pub variable : (i a : ℕ) → Listed (numbered 1 (place_words 4000000000 ps)) (own i) a → (x : ℕ)
       × (word_at (rows 4000000000 ps) a ≡ Some x) × FreshSays (with_own ps w) (with_variables ps vs) x (find bindings (own i))
   -- the children have theirs, in order of the body
-  pub children : ChildrenSay (with_own ps w) (with_variables ps vs) (process_words 4000000000 ps) (body_of (clause_used m g k))
+  pub children : ChildrenSay (with_own ps w) (with_variables ps vs) bindings (process_words 4000000000 ps) (body_of (clause_used m g k))
 
 -- the goal waits for exactly the places at these addresses, which are unbound
 pub record WaitSays (m : Program) (w : Words) (vs : Addresses) (bound : Bindings) (g : Goal Variable) (places : List ℕ) : Type 0 where

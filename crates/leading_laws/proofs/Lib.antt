@@ -1,0 +1,9 @@
+pub mod Answers
+pub mod Values
+pub mod Occurs
+pub mod Extending
+pub mod Pairs
+pub mod Unifications
+pub mod Tests
+pub mod Tries
+pub mod Decisions

@@ -1,0 +1,14 @@
+-- The law of texts over bindings with shorter ways.
+use Rattle.std.specs.Prelude.{◌≡◌, ℕ, List, Some}
+use Rattle.fcp_model.specs.Terms.{Term, Bindings}
+use Rattle.fcp_model.specs.Places.{Variable}
+use Rattle.fcp_model.specs.Spelling.{Bytes}
+use Rattle.fcp_model.specs.TermText.{cut_text}
+use Rattle.word_states.specs.Leading.{LeadsTo, AreShortened}
+
+-- Let t lead to u. Where some number of steps gives a text of u over the shorter bindings, some number of steps gives this text of t
+-- over the others.
+abbrev pub TextsComeAlike : Type 0
+TextsComeAlike = (names : List Bytes) (s short : Bindings) (nodes : ℕ) (t u : Term Variable) (n : ℕ) (bytes : Bytes)
+    → AreShortened s short → LeadsTo s t u → cut_text n names short nodes u ≡ Some bytes
+    → (m : ℕ) × (cut_text m names s nodes t ≡ Some bytes)
