@@ -15,4 +15,4 @@ mod turns;
 pub use answer::{Spent, Turn};
 pub use hall::Hall;
 pub use plain_hall::PlainHall;
-pub use turns::turn;
+pub use turns::{make_planned, turn};

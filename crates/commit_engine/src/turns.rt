@@ -61,8 +61,12 @@ fn make_prepared<H: Hall>(hall: &mut H, prepared: Prepared) -> Turn
     answer_by(kind, make(hall, entry, pages.as_slice(), places.as_slice()))
 }
 
-/// The end of a turn: the move that is planned, which is a commit or a hang whose cells are left, is made.
-fn finish<H: Hall>(hall: &mut H, planner: &mut Planner, process: u32) -> Turn
+/// Makes the move of the process at an address that a planner planned over the hall, where no other worker is in the way. It is a commit
+/// or a hang, whose cells are left, and has at least one commit, one move and one entry of room left. This is the end of a turn:
+/// its pages are taken, and what it read is looked at again. The planner then tells what the move did.
+///
+/// After every answer the hall holds no page, and nothing waits to be published.
+pub fn make_planned<H: Hall>(hall: &mut H, planner: &mut Planner, process: u32) -> Turn
     requires sound { H.sound hall.old }
     requires idle { H.due hall.old ≡ false }
     requires free { IsFree (H.holds hall.old) }
@@ -106,8 +110,8 @@ fn go_on<H: Hall>(hall: &mut H, planner: &mut Planner, code: &Code, process: u32
         return Turn::NoMemory;
     };
     match planned {
-        Planned::Commits => finish(hall, planner, process),
-        Planned::Hangs => finish(hall, planner, process),
+        Planned::Commits => make_planned(hall, planner, process),
+        Planned::Hangs => make_planned(hall, planner, process),
         Planned::Fails => Turn::Fails,
         Planned::Gone(stand) => Turn::Gone(stand),
         Planned::Large { cells } => Turn::Spent(Spent::Cells {

@@ -9,12 +9,12 @@ pub returns-in_default-clause-free : goal.returns-in_default-clause-free
 returns-in_default-clause-free g c = λ q.
     g.met.H.Hall.hall_laws.later_holds c.args.hall.now c.plan.new.words q c.plan.ensures.between ∙ c.requires.free q
 
-pub finish-requires-clause-free : goal.finish-requires-clause-free
-finish-requires-clause-free g c = λ q.
+pub make_planned-requires-clause-free : goal.make_planned-requires-clause-free
+make_planned-requires-clause-free g c = λ q.
     g.met.H.Hall.hall_laws.later_holds c.args.hall.now c.plan.new.words q c.plan.ensures.between ∙ c.requires.free q
 
-pub finish-requires-in-Hangs-clause-free : goal.finish-requires-in-Hangs-clause-free
-finish-requires-in-Hangs-clause-free g c = λ q.
+pub make_planned-requires-in-Hangs-clause-free : goal.make_planned-requires-in-Hangs-clause-free
+make_planned-requires-in-Hangs-clause-free g c = λ q.
     g.met.H.Hall.hall_laws.later_holds c.args.hall.now c.plan.new.words q c.plan.ensures.between ∙ c.requires.free q
 
 pub returns-in-Fails-clause-free : goal.returns-in-Fails-clause-free
@@ -41,29 +41,29 @@ returns-in-Large-clause-says g c =
     c.in-Large.cells c.quota-left.result.cells c.requires.sound c.plan.ensures.between c.in-Ok.ensures.loaded says.0
     (ap (λ (q : Quota). q.cells) c.quota-left.ensures) says.1
 
-pub finish-requires-clause-cells : goal.finish-requires-clause-cells
-finish-requires-clause-cells g c =
+pub make_planned-requires-clause-cells : goal.make_planned-requires-clause-cells
+make_planned-requires-clause-cells g c =
     let says = subst (λ (d : Planned). PlanSays c.args.code.now c.plan.new.self c.args.process c.quota-left.result.cells d)
     c.in-Commits.is c.in-Ok.ensures.says in
     enough_still g.met.H.Words.laws g.met.H.Hall.hall_laws c.args.hall.now c.plan.new.words c.plan.new.self.cells
     c.quota-left.result.cells c.plan.ensures.between (ap (λ (q : Quota). q.cells) c.quota-left.ensures) says.2
 
-pub finish-requires-in-Hangs-clause-cells : goal.finish-requires-in-Hangs-clause-cells
-finish-requires-in-Hangs-clause-cells g c =
+pub make_planned-requires-in-Hangs-clause-cells : goal.make_planned-requires-in-Hangs-clause-cells
+make_planned-requires-in-Hangs-clause-cells g c =
     let says = subst (λ (d : Planned). PlanSays c.args.code.now c.plan.new.self c.args.process c.quota-left.result.cells d)
     c.in-Hangs.is c.in-Ok.ensures.says in
     enough_still g.met.H.Words.laws g.met.H.Hall.hall_laws c.args.hall.now c.plan.new.words c.plan.new.self.cells
     c.quota-left.result.cells c.plan.ensures.between (ap (λ (q : Quota). q.cells) c.quota-left.ensures) says.2
 
-pub finish-requires-clause-had : goal.finish-requires-clause-had
-finish-requires-clause-had g c =
+pub make_planned-requires-clause-had : goal.make_planned-requires-clause-had
+make_planned-requires-clause-had g c =
     let says = subst (λ (d : Planned). PlanSays c.args.code.now c.plan.new.self c.args.process c.quota-left.result.cells d) c.in-Commits.is c.in-Ok.ensures.says in
     let plan = says.0 in
     read_had g.met.H.Words.laws g.met.H.Hall.hall_laws c.args.hall.now c.plan.new.words c.plan.new.self c.args.process
     c.in-Ok.ensures.loaded plan.safe
 
-pub finish-requires-clause-same : goal.finish-requires-clause-same
-finish-requires-clause-same g c =
+pub make_planned-requires-clause-same : goal.make_planned-requires-clause-same
+make_planned-requires-clause-same g c =
     let says = subst (λ (d : Planned). PlanSays c.args.code.now c.plan.new.self c.args.process c.quota-left.result.cells d) c.in-Commits.is c.in-Ok.ensures.says in
     let plan = says.0 in
     read_same g.met.H.Words.laws g.met.H.Hall.hall_laws c.args.hall.now c.plan.new.words c.plan.new.self c.args.process c.requires.sound
@@ -73,24 +73,24 @@ pub returns-in-Commits-clause-says : goal.returns-in-Commits-clause-says
 returns-in-Commits-clause-says g c =
     let says = subst (λ (d : Planned). PlanSays c.args.code.now c.plan.new.self c.args.process c.quota-left.result.cells d) c.in-Commits.is c.in-Ok.ensures.says in
     let plan = says.0 in
-    finish_turn g.met.H.Words.laws g.met.H.Hall.hall_laws c.args.code.now c.args.hall.now c.plan.new.words c.finish.new.hall
-    c.plan.new.self c.finish.new.planner c.args.process c.requires.sound c.plan.ensures.between c.in-Ok.ensures.loaded plan
-    c.finish.result c.finish.ensures.says
+    finish_turn g.met.H.Words.laws g.met.H.Hall.hall_laws c.args.code.now c.args.hall.now c.plan.new.words c.make_planned.new.hall
+    c.plan.new.self c.make_planned.new.planner c.args.process c.requires.sound c.plan.ensures.between c.in-Ok.ensures.loaded plan
+    c.make_planned.result c.make_planned.ensures.says
 
 pub returns-in-Commits-clause-rest : goal.returns-in-Commits-clause-rest
 returns-in-Commits-clause-rest g c =
-    left_after g.met.H.Words.laws g.met.H.Hall.hall_laws c.args.hall.now c.plan.new.words c.finish.new.hall c.finish.result
-    c.requires.sound c.plan.ensures.between c.finish.ensures.rest
+    left_after g.met.H.Words.laws g.met.H.Hall.hall_laws c.args.hall.now c.plan.new.words c.make_planned.new.hall c.make_planned.result
+    c.requires.sound c.plan.ensures.between c.make_planned.ensures.rest
 
-pub finish-requires-in-Hangs-clause-had : goal.finish-requires-in-Hangs-clause-had
-finish-requires-in-Hangs-clause-had g c =
+pub make_planned-requires-in-Hangs-clause-had : goal.make_planned-requires-in-Hangs-clause-had
+make_planned-requires-in-Hangs-clause-had g c =
     let says = subst (λ (d : Planned). PlanSays c.args.code.now c.plan.new.self c.args.process c.quota-left.result.cells d) c.in-Hangs.is c.in-Ok.ensures.says in
     let plan = says.0 in
     read_had g.met.H.Words.laws g.met.H.Hall.hall_laws c.args.hall.now c.plan.new.words c.plan.new.self c.args.process
     c.in-Ok.ensures.loaded plan.safe
 
-pub finish-requires-in-Hangs-clause-same : goal.finish-requires-in-Hangs-clause-same
-finish-requires-in-Hangs-clause-same g c =
+pub make_planned-requires-in-Hangs-clause-same : goal.make_planned-requires-in-Hangs-clause-same
+make_planned-requires-in-Hangs-clause-same g c =
     let says = subst (λ (d : Planned). PlanSays c.args.code.now c.plan.new.self c.args.process c.quota-left.result.cells d) c.in-Hangs.is c.in-Ok.ensures.says in
     let plan = says.0 in
     read_same g.met.H.Words.laws g.met.H.Hall.hall_laws c.args.hall.now c.plan.new.words c.plan.new.self c.args.process c.requires.sound
@@ -100,11 +100,11 @@ pub returns-in-Hangs-clause-says : goal.returns-in-Hangs-clause-says
 returns-in-Hangs-clause-says g c =
     let says = subst (λ (d : Planned). PlanSays c.args.code.now c.plan.new.self c.args.process c.quota-left.result.cells d) c.in-Hangs.is c.in-Ok.ensures.says in
     let plan = says.0 in
-    finish_turn g.met.H.Words.laws g.met.H.Hall.hall_laws c.args.code.now c.args.hall.now c.plan.new.words c.finish-in-Hangs.new.hall
-    c.plan.new.self c.finish-in-Hangs.new.planner c.args.process c.requires.sound c.plan.ensures.between c.in-Ok.ensures.loaded plan
-    c.finish-in-Hangs.result c.finish-in-Hangs.ensures.says
+    finish_turn g.met.H.Words.laws g.met.H.Hall.hall_laws c.args.code.now c.args.hall.now c.plan.new.words c.make_planned-in-Hangs.new.hall
+    c.plan.new.self c.make_planned-in-Hangs.new.planner c.args.process c.requires.sound c.plan.ensures.between c.in-Ok.ensures.loaded plan
+    c.make_planned-in-Hangs.result c.make_planned-in-Hangs.ensures.says
 
 pub returns-in-Hangs-clause-rest : goal.returns-in-Hangs-clause-rest
 returns-in-Hangs-clause-rest g c =
-    left_after g.met.H.Words.laws g.met.H.Hall.hall_laws c.args.hall.now c.plan.new.words c.finish-in-Hangs.new.hall
-    c.finish-in-Hangs.result c.requires.sound c.plan.ensures.between c.finish-in-Hangs.ensures.rest
+    left_after g.met.H.Words.laws g.met.H.Hall.hall_laws c.args.hall.now c.plan.new.words c.make_planned-in-Hangs.new.hall
+    c.make_planned-in-Hangs.result c.requires.sound c.plan.ensures.between c.make_planned-in-Hangs.ensures.rest

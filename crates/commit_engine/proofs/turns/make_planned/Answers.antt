@@ -2,7 +2,7 @@ use Rattle.std.proofs.Common.{sym, subst, refl}
 use Rattle.heap_words.specs.Trails.{WordList}
 use Rattle.word_states.specs.Words.{Among}
 use Rattle.commit_engine.proofs.Turning.{paid_by, made_says, made_left}
-use Rattle.commit_engine.proofs.turns.finish.Goals as goal
+use Rattle.commit_engine.proofs.turns.make_planned.Goals as goal
 
 pub make_prepared-requires-clause-paid : goal.make_prepared-requires-clause-paid
 make_prepared-requires-clause-paid g c =

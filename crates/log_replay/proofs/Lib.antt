@@ -1,0 +1,15 @@
+pub mod Modes
+pub mod RunsOn
+pub mod OrderedEvents
+pub mod GoingMoves
+pub mod Puts
+pub mod ReadyAfter
+pub mod MoveLines
+pub mod MadeMoves
+pub mod Standing
+pub mod Stamps
+pub mod WrongMoves
+pub mod ShownLines
+pub mod FirstReplays
+pub mod PlannedMoves
+pub mod StepAnswers

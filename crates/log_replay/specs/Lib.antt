@@ -1,0 +1,3 @@
+pub mod Tables
+pub mod Replays
+pub mod Parts

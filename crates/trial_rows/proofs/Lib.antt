@@ -1,0 +1,3 @@
+pub mod MadeCode
+pub mod Preparing
+pub mod TurnStores

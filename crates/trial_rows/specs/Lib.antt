@@ -1,0 +1,4 @@
+pub mod Made
+pub mod Prepared
+pub mod Turns
+pub mod TurnLaws
