@@ -17,12 +17,13 @@ use Rattle.unify_terms.specs.Denotes.{Stands}
 use Rattle.unify_terms.specs.WordsOfTries.{memory_of, naming}
 use Rattle.unify_terms.proofs.NamesOfPlaces.{place_listed}
 use Rattle.unify_terms.proofs.PlacesOfTries.{state_says}
-use Rattle.unify_terms.proofs.TermsOfWords.{stands_seen, denotes_seen}
+use Rattle.unify_terms.proofs.TermsOfWords.{stands_seen}
 use Rattle.word_texts.specs.Shown.{Labels, IsShown}
 use Rattle.word_states.proofs.Leading.{leads_here}
 use Rattle.leading_texts.proofs.Goals.{cut_on}
 use Rattle.entry_lines.specs.Additions.{Adds}
 use Rattle.entry_lines.proofs.Agreeing.{in_memory}
+use Rattle.entry_lines.proofs.DenotedTerms.{denotes_there}
 
 -- the place that a variable is
 abbrev the_place : Variable → Place
@@ -53,7 +54,7 @@ module _ (u : Words) (vs : Addresses) (bound : Bindings) (says : PlacesStand u v
       stands_seen (memory_of u) u vs says.once (in_memory u) [] bound (state_says u vs bound says) in
       let r = shown (naming vs) labels bound t
       (subst (λ (bs : WordList). Stands (naming vs) (memory_of u) bs bound) (sym free) seen)
-      (denotes_seen (memory_of u) u vs says.once (in_memory u) word t denotes) in
+      (denotes_there u vs says.once word t denotes) in
       record { added = r.text; behind = r.appended; given = (r.steps, r.cut) }
 
 -- and so that of the value of a place, over the state's own

@@ -18,7 +18,7 @@ use Rattle.word_states.specs.Words.{Words, At}
 use Rattle.word_states.specs.Denoting.{Addresses, Denotes, ExprSays, operator_code}
 use Rattle.unify_terms.specs.WordsOfTries.{memory_of, naming}
 use Rattle.unify_terms.proofs.NamesOfPlaces.{AreOnce}
-use Rattle.unify_terms.proofs.TermsOfWords.{denotes_seen}
+use Rattle.entry_lines.proofs.DenotedTerms.{denotes_there}
 use Rattle.stored_expressions.specs.Listing.{operation_of}
 use Rattle.stored_expressions.proofs.Operations.{is_operation, term_no_operation}
 use Rattle.entry_lines.specs.Additions.{Adds}
@@ -47,7 +47,7 @@ zip_append R (x ∷ xs) (y ∷ ys) us zs h k = (h.0, zip_append R xs ys us zs h.
 -- what words say as operands, in their memory
 module _ (w : Words) (vs : Addresses) (once : AreOnce vs) where
   term_no : (x : ℕ) (t : Term Variable) → Denotes w vs x t → operation_of (memory_of w) x ≡ None
-  term_no x t d = term_no_operation (naming vs) (memory_of w) x t (denotes_seen (memory_of w) w vs once (in_memory w) x t d)
+  term_no x t d = term_no_operation (naming vs) (memory_of w) x t (denotes_there w vs once x t d)
 
   is_operation_there : (x c : ℕ) (o : ArithOp) → decoded x ≡ Some (Tuple c) → At w c (Raw (66 + operator_code o))
       → operation_of (memory_of w) x ≡ Some (o, c)
