@@ -37,7 +37,8 @@ event_cells m s x (decides_fail rs) = refl
 -- what the entry of a goal costs over bindings with shorter ways, that of each goal which leads to it costs over the bindings themselves
 costs_long : (m : Program) (s short : Bindings) (g h : Goal Variable) (needed : ℕ) → AreShortened s short → GoalLeads s g h
     → EntryCosts m short h needed → EntryCosts m s g needed
-costs_long m s short g h needed shortened leads e = go e.decision (goals_decide_alike m s short g h e.decision shortened leads e.decided) e.costs
+costs_long m s short g h needed shortened leads e =
+    go e.decision (goals_decide_alike m s short g h e.decision shortened leads e.decided) e.costs
   where
     go : (d : Decision) → AlikeDecision m s g d → cells m h d ≡ needed → EntryCosts m s g needed
     go (commits k cs rs) a i = record {
@@ -46,7 +47,8 @@ costs_long m s short g h needed shortened leads e = go e.decision (goals_decide_
       costs = cells_are_alike m s g h (commits k a.0 rs) leads ∙ i;
     }
     go (waits_on rs) a i = record { decision = waits_on rs; decided = a; costs = cells_are_alike m s g h (waits_on rs) leads ∙ i }
-    go (decides_fail rs) a i = record { decision = decides_fail rs; decided = a; costs = cells_are_alike m s g h (decides_fail rs) leads ∙ i }
+    go (decides_fail rs) a i =
+        record { decision = decides_fail rs; decided = a; costs = cells_are_alike m s g h (decides_fail rs) leads ∙ i }
 
 module _ (r : Setting) (ws rest : List ℕ) (p : ℕ) (c : Counts) (evs : List Event) (at : Schedule) (book : Book)
     (here : StandsAt r ws (p ∷ rest) c evs at book) where

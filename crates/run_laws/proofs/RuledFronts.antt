@@ -57,7 +57,8 @@ module _ (n : ℕ) (m : Program) (limits : Limits) (at : Schedule) where
     -- and so does each run whose queue says so
     pub queue_ends : queue_ruling n m limits at at.queue ≡ Some ends → ruling n m limits at ≡ Some ends
     queue_ends h =
-        ap (λ (x : Bool). by_tests (is_over at.state.mode) x held at.controls) not_due ∙ go (is_over at.state.mode) (is_suspended at.state.mode)
+        ap (λ (x : Bool). by_tests (is_over at.state.mode) x held at.controls) not_due
+        ∙ go (is_over at.state.mode) (is_suspended at.state.mode)
       where
         go : (over suspended : Bool) → by_tests over false suspended at.controls ≡ Some ends
         go true suspended = refl

@@ -120,7 +120,8 @@ module _ (r : Setting) (ws rest : List ℕ) (p : ℕ) (c : Counts) (evs : List E
   length_is = all_long book at.state (p ∷ rest) at.queue here.queued
 
   ruled : (n : ℕ) (d : Decision) → decide n r.program at.state.bound front.process.goal ≡ Some d
-      → ruling n r.program r.limits at ≡ Some (front_ruling r.limits at front.process front.behind (event_of r.program at.state front.process d))
+      → ruling n r.program r.limits at
+      ≡ Some (front_ruling r.limits at front.process front.behind (event_of r.program at.state front.process d))
   ruled n d e =
       front_ruled n r.program r.limits at front.process front.behind d (record {
         is_running = here.mode ∙ f.going.mode;
@@ -136,7 +137,8 @@ module _ (r : Setting) (ws rest : List ℕ) (p : ℕ) (c : Counts) (evs : List E
     pub made_by : IsMadeBy g.goes.steps r.program at.state front.process v.entry g.goes.event
     made_by =
         next_is g.goes.steps r.program at.state v.entry f.mover front.process g.goes.event f.is_move
-        (ap (process_named at.state.processes) (front_name v ws p rest c book at.state f here.stands front.process front.at_front) ∙ found.0)
+        (ap (process_named at.state.processes) (front_name v ws p rest c book at.state f here.stands front.process front.at_front)
+        ∙ found.0)
         g.goes.legal
 
     pub of_front : IsOfFront r.program at g.goes.event v.entry
@@ -157,7 +159,8 @@ module _ (r : Setting) (ws rest : List ℕ) (p : ℕ) (c : Counts) (evs : List E
     leads_on : v.cells ≤ c.cells
         → Leads r.program r.limits (begin r.from r.controls) (evs ++ g.goes.event ∷ []) (after_event at front.behind g.goes.event)
     leads_on enough =
-        led_on r.program r.limits (begin r.from r.controls) at evs (makes g.goes.event (after_event at front.behind g.goes.event)) g.goes.steps here.leads
+        led_on r.program r.limits (begin r.from r.controls) at evs (makes g.goes.event (after_event at front.behind g.goes.event))
+        g.goes.steps here.leads
         (ruled_so ∙ ap Some (front_makes r.limits at front.process front.behind g.goes.event
         (omega (arith, enough, here.cells, g.cells)))) refl
 
@@ -222,7 +225,8 @@ module _ (r : Setting) (ws rest : List ℕ) (p : ℕ) (c : Counts) (evs : List E
       ap (λ (x : Event). x.after.mode) is,
       ap (λ (x : Event). x.after.entries) is,
       subst (λ (x : Event). length x.woken + length (waiting_of x.after.processes) ≡ length (waiting_of at.state.processes)) (sym is)
-          (ap (λ (xs : List Process). length xs + length (waiting_of (event_of r.program at.state front.process (commits j bs rs)).after.processes))
+          (ap (λ (xs : List Process). length xs
+          + length (waiting_of (event_of r.program at.state front.process (commits j bs rs)).after.processes))
           (woken_among_waiting bs at.state.processes)
           ∙ (ap (λ (xs : List Process). length (filter (λ z. is_woken bs z.status) (waiting_of at.state.processes)) + length xs)
           (waiting_after_commit bs (suc at.state.entries) (clause_used r.program front.process.goal j) front.process at.state.processes
