@@ -1,5 +1,5 @@
 -- Where the engine stands before the first entry.
-use Rattle.std.proofs.Common.{◌≡◌, ℕ, ◌+◌, ◌-◌, ◌*◌, ◌≤◌, false, List, [], length, drop, refl, sym, ap, ◌∙◌, subst, arith}
+use Rattle.std.proofs.Common.{◌≡◌, ℕ, ◌+◌, ◌*◌, ◌≤◌, false, List, [], length, drop, refl, sym, ap, subst, arith}
 use Rattle.fcp_model.specs.declared.run.Control.{Control}
 use Rattle.fcp_model.specs.OneWorker.{begin}
 use Rattle.fcp_model.specs.Translation.{started_goals}

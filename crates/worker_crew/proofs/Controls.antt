@@ -1,5 +1,5 @@
 -- Where the engine stands behind a control.
-use Rattle.std.proofs.Common.{◌≡◌, ℕ, suc, ◌+◌, ◌-◌, ◌*◌, ◌/◌, ◌<◌, ◌≤◌, Bool, false, List, [], ◌∷◌, ◌++◌, length, drop, get_or}
+use Rattle.std.proofs.Common.{◌≡◌, ℕ, suc, ◌+◌, ◌-◌, ◌/◌, ◌<◌, false, List, [], ◌∷◌, ◌++◌, length, drop, get_or}
 use Rattle.std.proofs.Common.{refl, sym, ap, ◌∙◌, arith, add-one}
 use Rattle.std.proofs.Math.Seq.{drop-cons}
 use Rattle.fcp_model.specs.declared.run.Act.{Act}
@@ -9,7 +9,6 @@ use Rattle.fcp_model.specs.declared.run.Entry.{Entry}
 use Rattle.fcp_model.specs.Events.{Event, control_event}
 use Rattle.fcp_model.specs.Bounds.{act_entry}
 use Rattle.fcp_model.specs.OneWorker.{is_over, mode_after}
-use Rattle.word_commit.specs.declared.quota.Quota.{Quota}
 use Rattle.commit_engine.specs.declared.plain_hall.PlainHall.{PlainHall}
 use Rattle.commit_engine.specs.Bare.{IsNoted}
 use Rattle.commit_engine.specs.Halls.{commits_of, moves_of}

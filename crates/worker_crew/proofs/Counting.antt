@@ -1,7 +1,6 @@
 -- Where a run stands, by words, queues and counts that are the same.
-use Rattle.std.proofs.Common.{◌≡◌, ℕ, ◌+◌, ◌≤◌, List, [], ◌∷◌, ◌++◌, length, drop, sym, ap, ◌∙◌, subst, arith}
+use Rattle.std.proofs.Common.{◌≡◌, ℕ, ◌+◌, List, [], ◌∷◌, ◌++◌, length, drop, sym, ap, ◌∙◌, subst, arith}
 use Rattle.std.proofs.lemmas.List.{map-append}
-use Rattle.fcp_model.specs.declared.run.Control.{Control}
 use Rattle.fcp_model.specs.declared.run.Entry.{Entry}
 use Rattle.fcp_model.specs.Events.{Event}
 use Rattle.fcp_model.specs.Runs.{entries_of}

@@ -1,5 +1,5 @@
 -- The end of a run.
-use Rattle.std.proofs.Common.{◌≡◌, ℕ, ◌+◌, ◌-◌, ◌*◌, ◌/◌, ◌≤◌, false, List, [], ◌∷◌, ◌++◌, length, refl, sym, ap, ◌∙◌, subst, arith}
+use Rattle.std.proofs.Common.{◌≡◌, ℕ, ◌+◌, ◌-◌, ◌≤◌, List, [], ◌∷◌, ◌++◌, length, refl, sym, ap, ◌∙◌, subst, arith}
 use Rattle.std.proofs.lemmas.List.{length-drop}
 use Rattle.fcp_model.specs.declared.run.Control.{Control}
 use Rattle.fcp_model.specs.declared.run.Entry.{Entry}
@@ -15,14 +15,13 @@ use Rattle.fcp_model.specs.Outcomes.{Ends}
 use Rattle.fcp_model.specs.Translation.{started_goals}
 use Rattle.fcp_laws.specs.Laws.{OneWorkerRunsAreRuns, OneWorkerRunsEnd}
 use Rattle.fcp_laws.proofs.SoundSchedules.{start_ordered}
-use Rattle.commit_engine.specs.declared.plain_hall.PlainHall.{PlainHall}
 use Rattle.run_laws.specs.Laws.{AFailEnds, AnEndEnds, AnEventIsOfTheFront, AnOutcomeIsCounted}
 use Rattle.run_laws.specs.Running.{Counts, IsAtEnd, outcome_by, open_outcome_by}
 use Rattle.worker_crew.specs.declared.task.Task.{Task}
 use Rattle.worker_crew.specs.declared.task.Run.{Run}
 use Rattle.worker_crew.specs.declared.engine.Engine.{Engine}
 use Rattle.worker_crew.specs.Tasks.{program, first_state, vars, IsTask, IsAlone, HasLog}
-use Rattle.worker_crew.specs.Reached.{setting, controls_left, counts_of, IsReached, HasEnded}
+use Rattle.worker_crew.specs.Reached.{setting, counts_of, IsReached, HasEnded}
 use Rattle.worker_crew.specs.Moved.{HasFailed}
 use Rattle.worker_crew.proofs.Counting.{log_more, length_more}
 use Rattle.worker_crew.proofs.Controls.{IsNotedThere}

@@ -4,8 +4,6 @@ use Rattle.std.specs.Prelude.{if◌then◌else◌}
 use Rattle.fcp_model.specs.declared.run.Entry.{Entry}
 use Rattle.fcp_model.specs.declared.run.Entry.TheVariants.{Commit, Hang, Fail, Snapshot, Suspend, Resume, Abort}
 use Rattle.fcp_model.specs.declared.run.Proc.{Proc}
-use Rattle.fcp_model.specs.Events.{Event}
-use Rattle.fcp_model.specs.OneWorker.{Schedule}
 use Rattle.heap_words.specs.Cells.{decoded}
 use Rattle.heap_words.specs.declared.cell.Cell.TheVariants.{Status}
 use Rattle.heap_words.specs.declared.cell.Stand.{Stand}
@@ -13,7 +11,6 @@ use Rattle.heap_words.specs.declared.cell.Stand.TheVariants.{Ready}
 use Rattle.heap_words.specs.Heaps.{inside_at}
 use Rattle.heap_words.specs.Trails.{WordList, word_at}
 use Rattle.word_states.specs.Words.{Words, AreApart, HasAll, over}
-use Rattle.word_states.specs.Standing.{Book}
 use Rattle.word_states.specs.Going.{Move, GoesOn}
 use Rattle.word_states.proofs.Lists.{apart_word}
 use Rattle.word_commit.specs.declared.quota.Quota.{Quota}

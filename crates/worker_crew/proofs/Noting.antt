@@ -1,9 +1,7 @@
 -- Where the engine stands behind a commit, a hang and a pass of the front.
-use Rattle.std.proofs.Common.{◌≡◌, ℕ, ◌+◌, ◌-◌, ◌<◌, ◌≤◌, Bool, true, false, not, List, [], ◌∷◌, ◌++◌, length, drop, refl, sym, ap, ◌∙◌, subst, arith}
+use Rattle.std.proofs.Common.{◌≡◌, ℕ, ◌+◌, ◌-◌, ◌<◌, ◌≤◌, Bool, false, not, List, [], ◌∷◌, ◌++◌, length, drop, sym, ap, ◌∙◌, arith}
 use Rattle.std.specs.Prelude.{if◌then◌else◌}
-use Rattle.fcp_model.specs.declared.run.Entry.{Entry}
 use Rattle.fcp_model.specs.declared.run.Entry.TheVariants.{Commit, Hang}
-use Rattle.fcp_model.specs.declared.run.Proc.{Proc}
 use Rattle.fcp_model.specs.Events.{Event}
 use Rattle.commit_engine.specs.declared.plain_hall.PlainHall.{PlainHall}
 use Rattle.commit_engine.specs.Halls.{commits_of, moves_of}
@@ -11,7 +9,6 @@ use Rattle.commit_engine.specs.Turns.{IsCommit, IsHang}
 use Rattle.run_laws.specs.Laws.{ACommitLeadsOn, AHangLeadsOn, APassLeadsOn, AnEventIsOfTheFront}
 use Rattle.run_laws.specs.Running.{after_commit, after_hang, after_pass}
 use Rattle.worker_crew.specs.declared.task.Task.{Task}
-use Rattle.worker_crew.specs.declared.mode.RunMode.{RunMode}
 use Rattle.worker_crew.specs.declared.engine.Engine.{Engine}
 use Rattle.worker_crew.specs.Reached.{setting, mode_of, counts_of, IsReached}
 use Rattle.worker_crew.specs.Moved.{HasMoved, HasPassed}

@@ -1,5 +1,5 @@
 -- What a turn of the front leaves, and what one ruling gives. Only the crate's private clauses cite this file.
-use Rattle.std.specs.Prelude.{◌≡◌, ℕ, ◌+◌, ◌-◌, ◌<◌, ◌≤◌, List, [], ◌∷◌, ◌++◌, length}
+use Rattle.std.specs.Prelude.{◌≡◌, ℕ, ◌+◌, ◌-◌, ◌<◌, ◌≤◌, [], ◌∷◌, ◌++◌, length}
 use Rattle.word_states.specs.Words.{Words}
 use Rattle.word_states.specs.Going.{Move, GoesOn}
 use Rattle.heap_words.specs.Heaps.{inside_at}

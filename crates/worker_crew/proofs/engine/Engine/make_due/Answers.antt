@@ -1,4 +1,4 @@
-use Rattle.std.proofs.Common.{◌≡◌, ◌-◌, ap, refl, sym, ◌∙◌}
+use Rattle.std.proofs.Common.{◌-◌, ap, refl, sym, ◌∙◌}
 use Rattle.word_commit.specs.declared.quota.Quota.{Quota}
 use Rattle.worker_crew.proofs.Controls.{control_noted}
 use Rattle.worker_crew.proofs.engine.Engine.make_due.Goals as goal

@@ -1,7 +1,4 @@
 use Rattle.std.proofs.Common.{refl}
-use Rattle.worker_crew.specs.declared.task.Task.{Task}
-use Rattle.worker_crew.specs.Tasks.{IsTask}
-use Rattle.worker_crew.specs.Moved.{HasFailed}
 use Rattle.worker_crew.proofs.Ending.{fail_ended}
 use Rattle.worker_crew.proofs.engine.Engine.make_fail.Goals as goal
 

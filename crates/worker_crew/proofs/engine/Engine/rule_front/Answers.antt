@@ -1,4 +1,4 @@
-use Rattle.std.proofs.Common.{ap, ◌∙◌, ◌+◌, ◌-◌, ◌<◌, ◌≤◌, suc, length, subst, sym, arith}
+use Rattle.std.proofs.Common.{ap, ◌∙◌, ◌<◌, subst, sym, arith}
 use Rattle.commit_engine.specs.declared.answer.Turn.TheVariants as answer
 use Rattle.commit_engine.specs.Turns.{has_made}
 use Rattle.worker_crew.specs.Reached.{entries_left}
