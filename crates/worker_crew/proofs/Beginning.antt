@@ -1,13 +1,11 @@
 -- Where the engine stands before the first entry.
-use Rattle.std.proofs.Common.{◌≡◌, ℕ, ◌+◌, ◌*◌, ◌≤◌, false, List, [], length, drop, refl, sym, ap, subst, arith}
+use Rattle.std.proofs.Common.{◌≡◌, ℕ, ◌+◌, false, List, [], length, drop, refl, sym, ap, arith}
 use Rattle.fcp_model.specs.declared.run.Control.{Control}
 use Rattle.fcp_model.specs.OneWorker.{begin}
 use Rattle.fcp_model.specs.Translation.{started_goals}
 use Rattle.fcp_model.specs.LawfulStates.{IsOrdered}
 use Rattle.fcp_laws.proofs.SoundSchedules.{start_ordered}
-use Rattle.heap_words.specs.Heaps.{AreFresh}
 use Rattle.word_commit.specs.declared.quota.Quota.{Quota}
-use Rattle.goal_layout.specs.Goals.{AreNew}
 use Rattle.commit_engine.specs.PlainHalls.{IsPlain, holds_of}
 use Rattle.ready_lists.specs.Ready.{AreReady}
 use Rattle.ready_lists.specs.Laws.{ReadyAreThoseOfTheState}
@@ -19,14 +17,6 @@ use Rattle.worker_crew.specs.declared.engine.Engine.{Engine}
 use Rattle.worker_crew.specs.Tasks.{IsTask, first_state, vars}
 use Rattle.worker_crew.specs.Reached.{setting, mode_of, counts_of, AreFirstWords, IsReached}
 use Rattle.worker_crew.proofs.Counting.{same_counts, stands_same}
-
--- the words of a new heap are new
-pub are_new : (pages : ℕ) (ws : List ℕ) → pages ≤ 3906250 → AreFresh (1024 * pages) ws → AreNew ws
-are_new pages ws few fresh = record {
-  whole = let h = fresh.size in omega arith;
-  small = let h = fresh.size in omega arith;
-  fresh = subst (λ n. AreFresh n ws) (sym fresh.size) fresh;
-}
 
 -- the engine stands at the beginning
 pub begun : (t : Task) (ws ready : List ℕ) → IsTask t → AreFirstWords t ws → AreReady ws ready → ReadyAreThoseOfTheState → ABeginningStands

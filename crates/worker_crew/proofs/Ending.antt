@@ -44,13 +44,6 @@ ended_here t e r law counted at_end o is = record {
       (ap length r.stands.controls ∙ length-drop e.made t.controls.now);
 }
 
--- the outcome of a run that is over or held, and of an open one
-pub aborted_counted : (queue : List ℕ) (c : Counts) → c.mode ≡ is_aborted → Aborted ≡ outcome_by queue c
-aborted_counted queue c mode = rw mode refl
-
-pub held_counted : (queue : List ℕ) (c : Counts) → c.mode ≡ is_held → Held ≡ outcome_by queue c
-held_counted queue c mode = rw mode refl
-
 when_open : (m : Mode) (o : Outcome) → m ≡ is_open
     → o ≡ elim m as (λ x. Outcome) [ is_failed ↦ Failed | is_aborted ↦ Aborted | is_held ↦ Held | is_open ↦ o ]
 when_open m o e = rw e refl

@@ -1,14 +1,13 @@
 -- Each ruling after which the run goes on leaves less to do; and where the queue and the limits end the run.
-use Rattle.std.proofs.Common.{◌≡◌, ℕ, ◌+◌, ◌-◌, ◌*◌, ◌<◌, ◌≤◌, Bool, true, false, [], length, ◌⊎◌, inl, inr, refl, ap, subst, arith}
+use Rattle.std.proofs.Common.{◌≡◌, ℕ, ◌+◌, ◌-◌, ◌*◌, ◌≤◌, Bool, true, false, [], length, ◌⊎◌, inl, inr, refl, subst, arith}
 use Rattle.std.specs.Prelude.{nat_eq, nat_le, ◌||◌}
 use Rattle.std.proofs.lemmas.Bool.Decides.{nat_tests}
-use Rattle.commit_engine.specs.declared.plain_hall.PlainHall.{PlainHall}
 use Rattle.run_laws.specs.Running.{IsGoing, IsAtEnd}
 use Rattle.worker_crew.specs.declared.task.Task.{Task}
 use Rattle.worker_crew.specs.declared.engine.Engine.{Engine}
 use Rattle.worker_crew.specs.declared.engine.Ruled.{Ruled}
 use Rattle.worker_crew.specs.declared.engine.Ruled.TheVariants as ruled
-use Rattle.worker_crew.specs.Reached.{counts_of, entries_left, IsReached, HasRoom}
+use Rattle.worker_crew.specs.Reached.{counts_of, entries_left, IsReached}
 use Rattle.worker_crew.specs.Moved.{RuleGives}
 
 -- more than the processes of a queue for each entry that may still be made, and those that did not go to its back
@@ -20,37 +19,17 @@ pub goes_on : (t : Task) (e new : Engine) (r : Ruled) → (r ≡ ruled.Makes) �
 goes_on t e new r (inl makes) h = (subst (RuleGives t (entries_left t e) (length e.queue.items) e.passed new) makes h).0
 goes_on t e new r (inr passes) h = (subst (RuleGives t (entries_left t e) (length e.queue.items) e.passed new) passes h).0
 
-pub smaller : (t : Task) (e new : Engine) (r : Ruled) → (r ≡ ruled.Makes) ⊎ (r ≡ ruled.Passes)
-    → RuleGives t (entries_left t e) (length e.queue.items) e.passed new r → measure t new < measure t e
-smaller t e new r (inl makes) h =
-    let d = subst (RuleGives t (entries_left t e) (length e.queue.items) e.passed new) makes h in omega (arith, d.1, new.queue.small)
-smaller t e new r (inr passes) h =
-    let d = subst (RuleGives t (entries_left t e) (length e.queue.items) e.passed new) passes h in
-    omega (arith, d.1, d.2, d.3, d.4)
-
 -- the run ends at its limits, and where each process of the queue went to its back
 or_cases : (a b c : Bool) → (a || b || c) ≡ true → (a ≡ true) ⊎ ((b ≡ true) ⊎ (c ≡ true))
 or_cases true b c e = inl refl
 or_cases false true c e = inr (inl refl)
 or_cases false false c e = inr (inr e)
 
-none_of : (a b c : Bool) → (a || b || c) ≡ false → (a ≡ false) × (b ≡ false) × (c ≡ false)
-none_of true b c e = cc
-none_of false true c e = cc
-none_of false false true e = cc
-none_of false false false e = (refl, refl, refl)
-
 at_zero : (n : ℕ) → nat_eq n 0 ≡ true → n ≡ 0
 at_zero n h = grind (arith, nat_tests)
 
-above_zero : (n : ℕ) → nat_eq n 0 ≡ false → 0 < n
-above_zero n h = grind (arith, nat_tests)
-
 at_most : (a b : ℕ) → nat_le a b ≡ true → a ≤ b
 at_most a b h = grind (arith, nat_tests)
-
-not_at_most : (a b : ℕ) → nat_le a b ≡ false → b < a
-not_at_most a b h = grind (arith, nat_tests)
 
 -- the test of an engine that its queue and its limits end the run
 abbrev pub is_ended : Engine → Bool
@@ -69,27 +48,3 @@ at_end t e going h =
     go (inl a) = inl (inr (at_zero e.hall.quota.commits a))
     go (inr (inl b)) = inr (inl (at_zero e.hall.quota.moves b))
     go (inr (inr c)) = inr (inr (at_most (length e.queue.items) e.passed c))
-
--- else one process may be taken from the queue
-pub room_here : (t : Task) (e new : Engine) → IsGoing (counts_of t new) → length e.queue.items ≡ length new.queue.items + 1
-    → new.hall ≡ e.hall → new.passed ≡ e.passed → is_ended e ≡ false → HasRoom t new
-room_here t e new going long hall passed h =
-    let each = none_of (nat_eq e.hall.quota.commits 0) (nat_eq e.hall.quota.moves 0) (nat_le (length e.queue.items) e.passed) h in
-    record {
-      going = going;
-      commits =
-          let a = above_zero e.hall.quota.commits each.0 in
-          let b = ap (λ (x : PlainHall). x.quota.commits) hall in
-          omega arith;
-      moves =
-          let a = above_zero e.hall.quota.moves each.1 in
-          let b = ap (λ (x : PlainHall). x.quota.moves) hall in
-          omega arith;
-      passed = let a = not_at_most (length e.queue.items) e.passed each.2 in omega (arith, long, passed);
-    }
-
--- a queue that does not end the run is not empty
-pub not_empty : (e : Engine) → is_ended e ≡ false → e.queue.items ≡ [] → ⊥
-not_empty e h none =
-    let each = none_of (nat_eq e.hall.quota.commits 0) (nat_eq e.hall.quota.moves 0) (nat_le (length e.queue.items) e.passed) h in
-    let a = not_at_most (length e.queue.items) e.passed each.2 in let b = ap length none in omega arith

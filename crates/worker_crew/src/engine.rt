@@ -138,7 +138,8 @@ impl Engine {
         }
     }
 
-    /// Whether the queue and the limits end a run that is going: no commits or moves are left, or each process of the queue went to its back.
+    /// Whether the queue and the limits end a run that is going: no commits or moves are left, or each process of the queue went to its
+    /// back.
     fn is_at_end(&self) -> bool
         ensures { result ≡ (nat_eq self.now.hall.quota.commits 0 || nat_eq self.now.hall.quota.moves 0
             || nat_le (length self.now.queue.items) self.now.passed) }
@@ -165,7 +166,8 @@ impl Engine {
         }
     }
 
-    /// The ruling of an open run of which no control is due: it ends, the front of the queue goes to its back, or the front's entry is made.
+    /// The ruling of an open run of which no control is due: it ends, the front of the queue goes to its back, or the front's entry is
+    /// made.
     fn rule_queue(&mut self, alloc: Global, task: &Task) -> Result<Ruled, NoMemory>
         requires task { IsTask task.now }
         requires reached { IsReached task.now [] self.old }
