@@ -1,3 +1,4 @@
+pub mod Bare
 pub mod Finishing
 pub mod Halls
 pub mod Holding
