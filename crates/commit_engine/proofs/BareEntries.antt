@@ -1,15 +1,19 @@
 -- An entry that reads and writes no words may be stamped.
-use Rattle.std.proofs.Common.{◌≡◌, ℕ, Bool, List, [], Option, sym, ap, subst, inl, arith}
+use Rattle.std.proofs.Common.{◌≡◌, ℕ, Bool, List, [], Option, sym, ap, ◌∙◌, subst, inl, arith}
 use Rattle.std.proofs.lemmas.List.{append-nil}
+use Rattle.fcp_model.specs.declared.run.Entry.{Entry}
 use Rattle.heap_words.specs.Heaps.{IsHeap, inside_at}
 use Rattle.heap_words.specs.Trails.{WordList}
 use Rattle.word_states.specs.Words.{Among}
-use Rattle.word_states.specs.Writing.{MayWrite}
+use Rattle.word_states.specs.Writing.{applied, MayWrite}
 use Rattle.sound_entries.specs.Closed.{AreClosed}
 use Rattle.sound_entries.specs.Sound.{IsSound}
 use Rattle.page_layout.specs.Writing.{written}
 use Rattle.word_moves.specs.declared.word_move.WordMove.{WordMove}
+use Rattle.commit_engine.specs.declared.plain_hall.PlainHall.{PlainHall}
+use Rattle.commit_engine.specs.Bare.{IsBare}
 use Rattle.commit_engine.specs.Halls.{MayStamp, writes_of}
+use Rattle.commit_engine.specs.PlainHalls.{IsAdded}
 
 -- no writes may follow, and they are sound
 none_may : (ws : List ℕ) → IsHeap ws → MayWrite ws []
@@ -43,3 +47,9 @@ may_stamp_bare pages holds stands primed shown e reads writes =
       writes = λ n ws few heap size st sh. subst (MayWrite ws) (sym (nothing n)) (none_may ws heap);
       primed_new = λ n a x h. absurd (subst (λ (xs : WordList). Among xs (a, x)) (nothing n) h);
     }
+
+-- and leaves the words of a plain hall as they are
+pub bare_words : (g h : PlainHall) (e : WordMove) (n : ℕ) (entry : Entry) (address : ℕ) → IsAdded g h e n → IsBare e entry address
+    → h.words.items ≡ g.words.items
+bare_words g h e n entry address added bare =
+    added.words ∙ ap (λ (ws : WordList). applied g.words.items ws) (ap (written n) bare.writes)
