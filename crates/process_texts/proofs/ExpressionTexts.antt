@@ -2,6 +2,7 @@
 use Rattle.std.proofs.Common.{◌≡◌, ℕ, ◌+◌, List, [], ◌∷◌, ◌++◌, Option, Some, None, refl, sym, ap, ◌∙◌, subst}
 use Rattle.std.specs.Prelude.{codes}
 use Rattle.std.specs.List.{AllZip}
+use Rattle.std.proofs.lemmas.Option.{none-some}
 use Rattle.fcp_model.specs.declared.term.ArithOp.{ArithOp}
 use Rattle.fcp_model.specs.Places.{Variable}
 use Rattle.fcp_model.specs.Terms.{Term, Bindings}
@@ -63,7 +64,7 @@ module _ (w : Words) (vs : Addresses) (once : AreOnce vs) where
   next_say x (op o a b) h =
       subst (λ (q : Option (ArithOp × ℕ)). AllZip (ItemSays w vs) (next_items (memory_of w) q)
       (operand a ∷ operator o ∷ operand b ∷ close ∷ [])) (sym (is_operation_there x h.0 o h.3 h.4))
-      (operand_there (h.0 + 1) h.1 a h.5 h.6, refl, operand_there (h.0 + 2) h.2 b h.7 h.8, tt, tt)
+      (operand_there (h.0 + 1) h.1 a h.5 h.6, (refl, (operand_there (h.0 + 2) h.2 b h.7 h.8, (tt, tt))))
 
   module _ (names : List Bytes) (bound : Bindings) (x : ℕ) (one two : Bytes) where
     -- where the word is no operation, and where it is one
@@ -71,28 +72,28 @@ module _ (w : Words) (vs : Addresses) (once : AreOnce vs) where
         → ((t : Term Variable) → Denotes w vs x t → Adds one two (λ n. cut_text n names bound 1024 t)) → ExprSays w vs x e
         → OperandAdds names bound e one two
     operand_term (leaf t) none text h = text t h
-    operand_term (op o a b) none text h = let bad : None ≡ Some (o, h.0) = sym none ∙ is_operation_there x h.0 o h.3 h.4 in cc
+    operand_term (op o a b) none text h = absurd (none-some (o, h.0) (sym none ∙ is_operation_there x h.0 o h.3 h.4))
 
     pub operand_opens : (e : Expr Variable) (q : ArithOp × ℕ) → operation_of (memory_of w) x ≡ Some q → two ≡ one ++ codes "("
         → ExprSays w vs x e → OperandAdds names bound e one two
-    operand_opens (leaf t) q is text h = let bad : None ≡ Some q = sym (term_no x t h) ∙ is in cc
+    operand_opens (leaf t) q is text h = absurd (none-some q (sym (term_no x t h) ∙ is))
     operand_opens (op o a b) q is text h = text
 
     pub expression_term : (e : Expr Variable) → operation_of (memory_of w) x ≡ None
         → ((t : Term Variable) → Denotes w vs x t → Adds one two (λ n. cut_text n names bound 1024 t)) → ExprSays w vs x e
         → Adds one two (λ n. expr_text n names bound e)
     expression_term (leaf t) none text h = text t h
-    expression_term (op o a b) none text h = let bad : None ≡ Some (o, h.0) = sym none ∙ is_operation_there x h.0 o h.3 h.4 in cc
+    expression_term (op o a b) none text h = absurd (none-some (o, h.0) (sym none ∙ is_operation_there x h.0 o h.3 h.4))
 
     pub expression_operation : (e : Expr Variable) (q : ArithOp × ℕ) → operation_of (memory_of w) x ≡ Some q
         → ((ps : List Piece) → AllZip (ItemSays w vs) (operation_items (memory_of w) q) ps → Adds one two (λ n. pieces_text n names bound ps))
         → ExprSays w vs x e → Adds one two (λ n. expr_text n names bound e)
-    expression_operation (leaf t) q is text h = let bad : None ≡ Some q = sym (term_no x t h) ∙ is in cc
+    expression_operation (leaf t) q is text h = absurd (none-some q (sym (term_no x t h) ∙ is))
     expression_operation (op o a b) q is text h =
         let same : (o, h.0) ≡ q = (let e : Some (o, h.0) ≡ Some q = sym (is_operation_there x h.0 o h.3 h.4) ∙ is in cc) in
         let r = text (operand a ∷ operator o ∷ operand b ∷ [])
         (subst (λ (p : ArithOp × ℕ). AllZip (ItemSays w vs) (operation_items (memory_of w) p) (operand a ∷ operator o ∷ operand b ∷ [])) same
-        (operand_there (h.0 + 1) h.1 a h.5 h.6, refl, operand_there (h.0 + 2) h.2 b h.7 h.8, tt)) in
+        (operand_there (h.0 + 1) h.1 a h.5 h.6, (refl, (operand_there (h.0 + 2) h.2 b h.7 h.8, tt)))) in
         record {
           added = r.added;
           behind = r.behind;

@@ -48,10 +48,10 @@ module _ (names : List Bytes) (m : Program) (kept : WordList) (p : ℕ) (waits :
   -- its status is none that is not read as one
   pub no_status : (c : Option Cell) (old new : Bytes) → CellRead kept p c → ((d : Stand) → c ≡ Some (cell.Status d) → ⊥)
       → ProcessLine names m kept p waits old new
-  no_status c old new read no w book s x has is =
+  no_status c old new read never w book s x has is =
       let r = (is.stands.process p x is.at).status in
       let d = stand_said s.entries r.0 x.status r.2 in
-      absurd (no d.0 (sym (read w r.0 has r.1) ∙ d.1))
+      absurd (never d.0 (sym (read w r.0 has r.1) ∙ d.1))
 
   pub line_added : (q : Proc) (d : Stand) (places : List Place) (t0 t1 t2 t3 t4 t5 : Bytes)
       → ((w : Words) → HasKept kept w → (y : ℕ) → w p ≡ Some y → decoded y ≡ Some (cell.Status d))

@@ -84,7 +84,7 @@ all_at_long : (book : Book) (s : State) (qs : List ℕ) (ys : List Process) → 
 all_at_long book s [] [] h = refl
 all_at_long book s [] (y ∷ ys) h = absurd h
 all_at_long book s (q ∷ qs) [] h = absurd h
-all_at_long book s (q ∷ qs) (y ∷ ys) h = ap suc (all_at_long book s qs ys h)
+all_at_long book s (q ∷ qs) (y ∷ ys) h = ap suc (all_at_long book s qs ys h.1)
 
 -- the lines of the first i processes
 abbrev pub LinesSoFar : List Bytes → Program → (ℕ → ℕ → Type 0) → List ℕ → List (List ℕ) → ℕ → Bytes → Bytes → Type 0

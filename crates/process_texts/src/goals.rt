@@ -1,8 +1,9 @@
 //! The text of a process's goal.
-ghost use Rattle.std.specs.Prelude.{◌≡◌, ◌+◌, ◌<◌, ◌≤◌, ◌++◌, OnOk};
+ghost use Rattle.std.specs.Prelude.{◌≡◌, ℕ, ◌+◌, ◌<◌, ◌≤◌, ◌++◌, Some, OnOk, MatchOption};
 ghost use Rattle.fcp_model.specs.ReportText.{procedure_text};
 ghost use Rattle.fcp_model.specs.Translation.{program_of};
 ghost use Rattle.heap_words.specs.Trails.{KeepsLoads};
+ghost use Rattle.heap_words.specs.declared.cell.Cell.TheVariants.{Raw};
 ghost use Rattle.entry_lines.specs.Reading.{ReadsStore};
 ghost use Rattle.process_texts.specs.Reading.{HadStatus, KnowsFrom};
 ghost use Rattle.process_texts.specs.Texts.{AddsPair, AddsAssignment, AddsCalled, AddsGoal};
@@ -120,6 +121,16 @@ fn push_called<W: Words>(
     Ok(())
 }
 
+/// The number that stands in a cell, where it is that of one.
+fn number_in(cell: Option<Cell>) -> Option<u32>
+    ensures { MatchOption result ((k : ℕ) → cell ≡ Some (Raw k) → ⊥) (λ k. cell ≡ Some (Raw k)) }
+{
+    match cell {
+        Some(Cell::Raw(number)) => Some(number),
+        _ => None,
+    }
+}
+
 /// Puts the goal of the process at an address after a text, by value, each argument cut after 1,024 nodes.
 pub(crate) fn push_goal<W: Words>(
     lists: &mut ProcessLists,
@@ -138,10 +149,12 @@ pub(crate) fn push_goal<W: Words>(
     ensures binds { trail.new.binds ≡ trail.old.binds }
     ensures text { OnOk result (AddsGoal trail.new.kept names.now (program_of loaded.now) process out.old.items out.new.items) }
 {
-    let Some(Cell::Raw(procedure)) = cell_at(trail, words, process + 2)? else {
+    let second = cell_at(trail, words, process + 2)?;
+    let Some(procedure) = number_in(second) else {
         return Ok(());
     };
-    let Some(Cell::Raw(count)) = cell_at(trail, words, process + 3)? else {
+    let third = cell_at(trail, words, process + 3)?;
+    let Some(count) = number_in(third) else {
         return Ok(());
     };
     push_called(lists, trail, words, names, loaded, out, process, procedure, count)?;

@@ -1,7 +1,9 @@
 //! The lines of processes.
-ghost use Rattle.std.specs.Prelude.{◌≡◌, ◌+◌, ◌-◌, ◌<◌, ◌≤◌, ◌++◌, ℕ, [], OnOk, length, map};
+ghost use Rattle.std.specs.Prelude.{◌≡◌, ◌+◌, ◌-◌, ◌<◌, ◌≤◌, ◌++◌, ℕ, [], Some, OnOk, MatchOption, length, map};
 ghost use Rattle.fcp_model.specs.Translation.{program_of};
 ghost use Rattle.heap_words.specs.Trails.{KeepsLoads};
+ghost use Rattle.heap_words.specs.declared.cell.Cell.TheVariants.{Status};
+ghost use Rattle.heap_words.specs.declared.cell.Stand.{Stand};
 ghost use Rattle.word_states.specs.Words.{IsIn};
 ghost use Rattle.ro_unify.specs.Occurs.{Each};
 ghost use Rattle.process_texts.specs.Lines.{ProcessLine, ProcessLines};
@@ -15,6 +17,16 @@ use fcp_model::log_lines::push_places;
 use fcp_model::spelling::{push_bytes, push_process};
 use fcp_model::{Loaded, Names, NoMemory, Place};
 use heap_words::{Cell, Stand, Trail, Words};
+
+/// How a process stands whose status is in a cell, where it is a status.
+fn stand_in(cell: Option<Cell>) -> Option<Stand>
+    ensures { MatchOption result ((d : Stand) → cell ≡ Some (Status d) → ⊥) (λ d. cell ≡ Some (Status d)) }
+{
+    match cell {
+        Some(Cell::Status(stand)) => Some(stand),
+        _ => None,
+    }
+}
 
 /// Puts how a process stands after a text, with the places on which it waits.
 fn push_stand(out: &mut Vec<u8>, stand: Stand, places: &[Place]) -> Result<(), NoMemory>
@@ -55,7 +67,8 @@ pub fn push_process_line<W: Words>(
         out.new.items) }
 {
     trail.clear();
-    let Some(Cell::Status(stand)) = cell_at(trail, words, process)? else {
+    let status = cell_at(trail, words, process)?;
+    let Some(stand) = stand_in(status) else {
         return Ok(());
     };
     let name = process_name(trail, words, process)?;

@@ -24,7 +24,7 @@ returns-clause-items g c m i =
 
 pub returns-clause-leads : goal.returns-clause-leads
 returns-clause-leads g c h =
-    let on = λ x k. g.met.W.Words.laws.stays_leading _ _ x c.word-2.ensures.between
+    let on : (x : ℕ) → g.W.Words.leads c.args.words.now x → g.W.Words.leads c.word-2.new.words x = λ x k. g.met.W.Words.laws.stays_leading _ _ x c.word-2.ensures.between
     (g.met.W.Words.laws.stays_leading _ _ x c.word.ensures.between k) in
     let right = g.met.W.Words.laws.stays_leading _ _ _ c.word-2.ensures.between
     (g.met.W.Words.laws.had_leads _ _ _ c.in_ok-right.ensures.loaded.sound c.in_ok-right.ensures.had) in
