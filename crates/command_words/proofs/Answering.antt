@@ -1,6 +1,6 @@
 -- What words are answered.
-use Rattle.std.proofs.Common.{◌≡◌, true, false, List, [], ◌∷◌, ◌++◌, map, Some, None, ap, sym, ◌∙◌, subst, refl, ◌⊎◌, inl, inr}
-use Rattle.std.specs.Prelude.{◌&&◌, codes, IfOk, IsTrue, Result, Ok, Err}
+use Rattle.std.proofs.Common.{◌≡◌, true, false, List, [], ◌∷◌, map, Option, Some, None, ap, sym, ◌∙◌, subst, refl, ◌⊎◌, inl, inr}
+use Rattle.std.specs.Prelude.{codes, Result, Ok, Err}
 use Rattle.std.specs.List.{list_all}
 use Rattle.std.specs.Str.{bytes_eq}
 use Rattle.std.proofs.lemmas.List.Folds.{list_all-map}
@@ -20,7 +20,7 @@ use Rattle.command_words.specs.declared.order.WordFault.TheVariants.{Usage, NoMe
 use Rattle.command_words.specs.Commands.{logix}
 use Rattle.command_words.specs.Laws.{WordsHaveOneReading}
 use Rattle.command_words.specs.Orders.{Answers, Parses, is_allowed, is_long_or_plain, order_in}
-use Rattle.command_words.specs.Readings.{is_proper, is_plain, option_word, Part, positional, apart, joined, words_of, positionals, AreRunParts, IsReading, HasNoReading, ReadsWords, has_words}
+use Rattle.command_words.specs.Readings.{is_proper, is_plain, Part, AreRunParts, IsReading, HasNoReading, ReadsWords}
 use Rattle.command_words.proofs.Forms.{IsLong, is_word, plain-or-long, plain-word}
 use Rattle.command_words.proofs.Levels.{names, run-fault, run-rows, show-fault, show-rows, top}
 use Rattle.command_words.proofs.PassingParts.{plain-stands}
@@ -139,12 +139,12 @@ taken-reading (w ∷ words) o allowed passes finds =
 
 -- ---- and what words ask for is what the parser takes and finds
 
-run-is-taken : (words : List Bytes) (file goal : Bytes) (limits : Limits) (parts : List Part)
+run-is-taken : (words : List Bytes) (file goal : Bytes) (limits : Limits) (control : Option Bytes) (parts : List Part)
     → list_all is_proper (codes "run" ∷ words) ≡ true
-    → AreRunParts words parts file goal limits
-    → IsTaken (codes "run" ∷ words) (Run file goal limits)
-run-is-taken words file goal limits parts proper a =
-    let t = run-taken words parts file goal limits a in
+    → AreRunParts words parts file goal limits control
+    → IsTaken (codes "run" ∷ words) (Run file goal limits control)
+run-is-taken words file goal limits control parts proper a =
+    let t = run-taken words parts file goal limits control a in
     record {
       allowed = allowed-all (codes "run" ∷ words) proper
           (and_from (is_long_or_plain (codes "run")) (list_all is_long_or_plain words) refl t.formed);
@@ -161,9 +161,9 @@ show-is-taken file proper plain = record {
 }
 
 reading-taken : (words : List Bytes) (o : Order) → IsReading words o → IsTaken words o
-reading-taken words (Run file goal limits) r =
-    subst (λ x. IsTaken x (Run file goal limits)) (sym r.asks.command)
-    (run-is-taken r.asks.behind file goal limits r.asks.parts
+reading-taken words (Run file goal limits control) r =
+    subst (λ x. IsTaken x (Run file goal limits control)) (sym r.asks.command)
+    (run-is-taken r.asks.behind file goal limits control r.asks.parts
     (subst (λ x. list_all is_proper x ≡ true) r.asks.command r.asks.proper) r.asks.are_parts)
 reading-taken words (Show file) r =
     subst (λ x. IsTaken x (Show file)) (sym r.asks.command)
@@ -196,41 +196,3 @@ answered words m (Err Usage) allowed p a = λ o r.
     let bad : Some o ≡ None = sym (reading-taken words o r).finds ∙ sym (ap order_in p.1) ∙ a in
     cc
 answered words m (Err NoMemory) allowed p a = tt
-
--- ---- the words of what was read
-
--- where words are proper, the positional ones are
-positionals-proper : (ps : List Part) → list_all is_proper (words_of ps) ≡ true → list_all is_proper (positionals ps) ≡ true
-positionals-proper [] e = refl
-positionals-proper (positional w ∷ ps) e =
-    let k = and_parts (is_proper w) (list_all is_proper (words_of ps)) e in
-    and_from (is_proper w) (list_all is_proper (positionals ps)) k.0 (positionals-proper ps k.1)
-positionals-proper (apart o v ∷ ps) e =
-    let k = and_parts (is_proper (option_word o)) (is_proper v && list_all is_proper (words_of ps)) e in
-    let j = and_parts (is_proper v) (list_all is_proper (words_of ps)) k.1 in
-    positionals-proper ps j.1
-positionals-proper (joined o v ∷ ps) e =
-    let k = and_parts (is_proper (option_word o ++ codes "=" ++ v)) (list_all is_proper (words_of ps)) e in
-    positionals-proper ps k.1
-
-proper-words : (words : List Bytes) (o : Order) → IsReading words o → has_words o ≡ true
-proper-words words (Run file goal limits) r =
-    let all : list_all is_proper (codes "run" ∷ r.asks.behind) ≡ true =
-    subst (λ x. list_all is_proper x ≡ true) r.asks.command r.asks.proper in
-    let k = and_parts (is_proper (codes "run")) (list_all is_proper r.asks.behind) all in
-    let ps : list_all is_proper (words_of r.asks.parts) ≡ true = subst (λ x. list_all is_proper x ≡ true) r.asks.are_parts.spelled k.1 in
-    let two : list_all is_proper (file ∷ goal ∷ []) ≡ true =
-    subst (λ x. list_all is_proper x ≡ true) r.asks.are_parts.two (positionals-proper r.asks.parts ps) in
-    let f = and_parts (is_proper file) (is_proper goal && true) two in
-    let g = and_parts (is_proper goal) true f.1 in
-    and_from (is_proper file) (is_proper goal) f.0 g.0
-proper-words words (Show file) r =
-    let all : list_all is_proper (codes "show" ∷ file ∷ []) ≡ true =
-    subst (λ x. list_all is_proper x ≡ true) r.asks.command r.asks.proper in
-    let k = and_parts (is_proper (codes "show")) (is_proper file && true) all in
-    let f = and_parts (is_proper file) true k.1 in
-    f.0
-
-pub read-proper : (words : List Bytes) (r : Result Order WordFault) → ReadsWords words r → IfOk r (λ o. IsTrue (has_words o))
-read-proper words (Ok o) h = proper-words words o h
-read-proper words (Err e) h = tt

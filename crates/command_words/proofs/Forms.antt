@@ -9,11 +9,12 @@ use Rattle.fcp_model.specs.Spelling.{Bytes}
 use Rattle.clap.specs.Lexer.{has_byte, long_of, name_and_value, short_of}
 use Rattle.clap.specs.Walk.{arg_by_long}
 use Rattle.command_words.specs.declared.run_option.RunOption.{RunOption}
-use Rattle.command_words.specs.declared.run_option.RunOption.TheVariants.{Commits, Moves, Cells}
+use Rattle.command_words.specs.declared.run_option.RunOption.TheVariants.{Limit, Control}
+use Rattle.command_words.specs.declared.run_option.RunLimit.TheVariants.{Commits, Moves, Cells}
 use Rattle.command_words.specs.Commands.{name_of}
 use Rattle.command_words.specs.Orders.{is_long_or_plain}
 use Rattle.command_words.specs.Readings.{is_plain, option_word}
-use Rattle.command_words.proofs.Levels.{number_rule, run_rules}
+use Rattle.command_words.proofs.Levels.{named_rule, run_rules}
 
 pub is_word : (w text : Bytes) → bytes_eq w text ≡ true → w ≡ text
 is_word w text e = (bytes_eq-Decides w text).0 e
@@ -111,24 +112,30 @@ data Named (name : Bytes) : Type 0 where
   unnamed : arg_by_long run_rules name ≡ None → Named name
 
 name-found : (name : Bytes) → Named name
-name-found name = go (bytes_eq (codes "commits") name) (bytes_eq (codes "moves") name) (bytes_eq (codes "cells") name) refl refl refl
+name-found name =
+    go (bytes_eq (codes "commits") name) (bytes_eq (codes "moves") name) (bytes_eq (codes "cells") name) (bytes_eq (codes "control") name)
+    refl refl refl refl
   where
-    go : (a b c : Bool) → bytes_eq (codes "commits") name ≡ a → bytes_eq (codes "moves") name ≡ b → bytes_eq (codes "cells") name ≡ c
+    go : (a b c d : Bool) → bytes_eq (codes "commits") name ≡ a → bytes_eq (codes "moves") name ≡ b → bytes_eq (codes "cells") name ≡ c
+        → bytes_eq (codes "control") name ≡ d
         → Named name
-    go true b c p q r = named Commits (sym (is_word (codes "commits") name p))
-    go false true c p q r = named Moves (sym (is_word (codes "moves") name q))
-    go false false true p q r = named Cells (sym (is_word (codes "cells") name r))
-    go false false false p q r = unnamed (rw (p, q, r))
+    go true b c d p q r s = named (Limit Commits) (sym (is_word (codes "commits") name p))
+    go false true c d p q r s = named (Limit Moves) (sym (is_word (codes "moves") name q))
+    go false false true d p q r s = named (Limit Cells) (sym (is_word (codes "cells") name r))
+    go false false false true p q r s = named Control (sym (is_word (codes "control") name s))
+    go false false false false p q r s = unnamed (rw (p, q, r, s))
 
 spelled-apart : (o : RunOption) → 45 ∷ 45 ∷ name_of o ≡ option_word o
-spelled-apart Commits = refl
-spelled-apart Moves = refl
-spelled-apart Cells = refl
+spelled-apart (Limit Commits) = refl
+spelled-apart (Limit Moves) = refl
+spelled-apart (Limit Cells) = refl
+spelled-apart Control = refl
 
 spelled-joined : (o : RunOption) (v : Bytes) → 45 ∷ 45 ∷ name_of o ++ 61 ∷ v ≡ option_word o ++ codes "=" ++ v
-spelled-joined Commits v = refl
-spelled-joined Moves v = refl
-spelled-joined Cells v = refl
+spelled-joined (Limit Commits) v = refl
+spelled-joined (Limit Moves) v = refl
+spelled-joined (Limit Cells) v = refl
+spelled-joined Control v = refl
 
 -- what stands behind `--`
 form-behind : (t : Bytes) (h : Bool) → has_byte 61 t ≡ h → Named (before_first is_equals t)
@@ -151,14 +158,15 @@ pub record NamesRule (w : Bytes) : Type 0 where
   pub name : Bytes
   pub value : Option Bytes
   pub is_long : long_of w ≡ Some (name, value)
-  pub is_rule : (arg_by_long run_rules name ≡ None) ⊎ ((o : RunOption) × (arg_by_long run_rules name ≡ Some (number_rule o)))
+  pub is_rule : (arg_by_long run_rules name ≡ None) ⊎ ((o : RunOption) × (arg_by_long run_rules name ≡ Some (named_rule o)))
 
 named-rule : (name : Bytes) → Named name
-    → (arg_by_long run_rules name ≡ None) ⊎ ((o : RunOption) × (arg_by_long run_rules name ≡ Some (number_rule o)))
+    → (arg_by_long run_rules name ≡ None) ⊎ ((o : RunOption) × (arg_by_long run_rules name ≡ Some (named_rule o)))
 named-rule name (unnamed n) = inl n
-named-rule name (named Commits n) = inr (Commits, ap (arg_by_long run_rules) n)
-named-rule name (named Moves n) = inr (Moves, ap (arg_by_long run_rules) n)
-named-rule name (named Cells n) = inr (Cells, ap (arg_by_long run_rules) n)
+named-rule name (named (Limit Commits) n) = inr (Limit Commits, ap (arg_by_long run_rules) n)
+named-rule name (named (Limit Moves) n) = inr (Limit Moves, ap (arg_by_long run_rules) n)
+named-rule name (named (Limit Cells) n) = inr (Limit Cells, ap (arg_by_long run_rules) n)
+named-rule name (named Control n) = inr (Control, ap (arg_by_long run_rules) n)
 
 pub long-rule : (w : Bytes) → IsLong w → NamesRule w
 long-rule w l =

@@ -11,7 +11,8 @@ use Rattle.clap.specs.Faults.{check_fault, defaults_fault, entered_fault, fault_
 use Rattle.clap.proofs.FaultLemmas.{stopped_fault}
 use Rattle.clap.proofs.WalkLemmas.{walk_stopped}
 use Rattle.command_words.specs.declared.run_option.RunOption.{RunOption}
-use Rattle.command_words.specs.declared.run_option.RunOption.TheVariants.{Commits, Moves, Cells}
+use Rattle.command_words.specs.declared.run_option.RunOption.TheVariants.{Limit, Control}
+use Rattle.command_words.specs.declared.run_option.RunLimit.TheVariants.{Commits, Moves, Cells}
 use Rattle.command_words.specs.Commands.{logix, name_of, run, show}
 
 -- an argument of one value, as the parser completes it
@@ -56,11 +57,14 @@ slot_rule s = given_rule (slot_id s) None (Some (place_index (place_of s)))
 abbrev pub file_rule : Rule
 file_rule = slot_rule the_file
 
-abbrev pub number_rule : RunOption → Rule
-number_rule o = given_rule (name_of o) (Some (name_of o)) None
+-- an option, as the parser completes it
+abbrev pub named_rule : RunOption → Rule
+named_rule o = given_rule (name_of o) (Some (name_of o)) None
 
 abbrev pub run_rules : List Rule
-run_rules = file_rule ∷ slot_rule the_goal ∷ number_rule Commits ∷ number_rule Moves ∷ number_rule Cells ∷ []
+run_rules =
+    file_rule ∷ slot_rule the_goal ∷ named_rule (Limit Commits) ∷ named_rule (Limit Moves) ∷ named_rule (Limit Cells) ∷ named_rule Control
+    ∷ []
 
 -- a command behind the first word, as the parser completes it
 abbrev pub leaf : Shape → List Rule → Shape

@@ -8,3 +8,4 @@ pub mod PassingParts
 pub mod RunWords
 pub mod ShowWords
 pub mod Answering
+pub mod ProperWords

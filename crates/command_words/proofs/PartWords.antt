@@ -13,10 +13,10 @@ use Rattle.command_words.specs.Commands.{name_of}
 use Rattle.command_words.specs.Orders.{is_long_or_plain}
 use Rattle.command_words.specs.Readings.{Part, apart, is_plain, is_plain_part, joined, option_word, positional, words_of}
 use Rattle.command_words.proofs.Forms.{IsLong, LongForm, apart_word, joined_word, long-form, other_word, plain-or-long}
-use Rattle.command_words.proofs.Levels.{Place, Slot, first, full, number_rule, place_behind, place_index, place_of, run_leaf, run_rules, second, slot_id, slot_rule, the_file, the_goal}
+use Rattle.command_words.proofs.Levels.{Place, Slot, first, full, named_rule, place_behind, place_index, place_of, run_leaf, run_rules, second, slot_id, slot_rule, the_file, the_goal}
 use Rattle.command_words.proofs.Rows.{IsUsed, are_single, is-used}
-use Rattle.command_words.proofs.Tallies.{HasFound, IsAt, IsFound, apart-found, found-more, found-none, joined-found, number-placed, word-found, word-free, word-placed}
-use Rattle.command_words.proofs.Turns.{IsTurn, Pending, apart-turn, awaiting-fails, awaiting_at, both-none, idle_at, joined-turn, other-fails, rows-number, rows-word, rows_after_use, settle, settle-awaiting, settle-number, third-fails, turned, use-free, value-turn, word-turn}
+use Rattle.command_words.proofs.Tallies.{HasFound, IsAt, IsFound, apart-found, found-more, found-none, joined-found, option-placed, word-found, word-free, word-placed}
+use Rattle.command_words.proofs.Turns.{IsTurn, Pending, apart-turn, awaiting-fails, awaiting_at, both-none, idle_at, joined-turn, other-fails, rows-option, rows-word, rows_after_use, settle, settle-awaiting, settle-option, third-fails, turned, use-free, value-turn, word-turn}
 
 -- ---- walks that pass
 
@@ -109,18 +109,18 @@ read-none (awaiting o rows place) ready formed h =
     cc
 
 -- a number that is used once
-number-used : (o : RunOption) (v : Bytes) (rows : List Row) → use_fault false (number_rule o) (v ∷ []) rows ≡ []
-    → (has_row (name_of o) rows ≡ false) × IsUsed (name_of o) v rows (used (number_rule o) (v ∷ []) rows)
-number-used o v rows e =
+option-used : (o : RunOption) (v : Bytes) (rows : List Row) → use_fault false (named_rule o) (v ∷ []) rows ≡ []
+    → (has_row (name_of o) rows ≡ false) × IsUsed (name_of o) v rows (used (named_rule o) (v ∷ []) rows)
+option-used o v rows e =
     let free = use-free (name_of o) (Some (name_of o)) None v rows e in
     (free, is-used (name_of o) (Some (name_of o)) None v rows free)
 
-number-ready : (o : RunOption) (v : Bytes) (rows : List Row) (place : Place) → IsTidy place rows
-    → use_fault false (number_rule o) (v ∷ []) rows ≡ []
-    → IsTidy place (used (number_rule o) (v ∷ []) rows)
-number-ready o v rows place tidy e =
-    let u = (number-used o v rows e).1 in
-    (number-placed o place v rows (used (number_rule o) (v ∷ []) rows) tidy.0 u, u.single tidy.1)
+option-ready : (o : RunOption) (v : Bytes) (rows : List Row) (place : Place) → IsTidy place rows
+    → use_fault false (named_rule o) (v ∷ []) rows ≡ []
+    → IsTidy place (used (named_rule o) (v ∷ []) rows)
+option-ready o v rows place tidy e =
+    let u = (option-used o v rows e).1 in
+    (option-placed o place v rows (used (named_rule o) (v ∷ []) rows) tidy.0 u, u.single tidy.1)
 
 module _ (w : Bytes) (ws : List Bytes) (rest : AreRead ws) (formed : list_all is_long_or_plain ws ≡ true) where
   word-read : (s : Slot) (rows : List Row) (p : Pending) → IsReady (idle rows p (place_of s)) → is_plain w ≡ true
@@ -165,14 +165,14 @@ module _ (w : Bytes) (ws : List Bytes) (rest : AreRead ws) (formed : list_all is
       let s = Some (name_of o, w ∷ []) in
       let next = idle_at rows s (place_index place) in
       let t = value-turn o rows (place_index place) w plain_word in
-      let after = used (number_rule o) (w ∷ []) rows in
+      let after = used (named_rule o) (w ∷ []) rows in
       let r = rest (idle rows s place)
-      (λ e. subst (IsTidy place) (sym (rows-number o w rows)) (number-ready o w rows place ready (sym (settle-number o w rows) ∙ e)))
+      (λ e. subst (IsTidy place) (sym (rows-option o w rows)) (option-ready o w rows place ready (sym (settle-option o w rows) ∙ e)))
       formed (passes-turn from next [] w ws t h).1 in
-      let n = number-used o w rows (sym (settle-number o w rows) ∙ r.0) in
+      let n = option-used o w rows (sym (settle-option o w rows) ∙ r.0) in
       one-more (apart o w) (option_word o ∷ w ∷ ws) ws rows after (rows_behind from (w ∷ ws)) (rows_behind next ws)
       (apart-found o w rows after n.0 n.1) refl (λ ps e. ap (λ x. option_word o ∷ w ∷ x) e) (same-end from next [] w ws t)
-      (subst (λ x. ArePartWords ws x (rows_behind next ws)) (rows-number o w rows) r.1)
+      (subst (λ x. ArePartWords ws x (rows_behind next ws)) (rows-option o w rows) r.1)
 
   joined-read : (o : RunOption) (v : Bytes) (rows : List Row) (p : Pending) (place : Place) → IsReady (idle rows p place)
       → w ≡ option_word o ++ codes "=" ++ v
@@ -181,20 +181,20 @@ module _ (w : Bytes) (ws : List Bytes) (rest : AreRead ws) (formed : list_all is
   joined-read o v rows p place ready e h =
       let from = idle_at rows p (place_index place) in
       let now = rows_after_use rows p in
-      let after = used (number_rule o) (v ∷ []) now in
+      let after = used (named_rule o) (v ∷ []) now in
       let next = idle_at after None (place_index place) in
-      let kinds = or_else (settle rows p) (use_fault false (number_rule o) (v ∷ []) now) in
+      let kinds = or_else (settle rows p) (use_fault false (named_rule o) (v ∷ []) now) in
       let t = subst (λ x. IsTurn from x kinds next) (sym e) (joined-turn o rows p (place_index place) v) in
       let k = passes-turn from next kinds w ws t h in
-      let both = both-none (settle rows p) (use_fault false (number_rule o) (v ∷ []) now) k.0 in
+      let both = both-none (settle rows p) (use_fault false (named_rule o) (v ∷ []) now) k.0 in
       let here = ready both.0 in
-      let n = number-used o v now both.1 in (
+      let n = option-used o v now both.1 in (
         both.0,
         one-more (joined o v) (w ∷ ws) ws now after (rows_behind from (w ∷ ws)) (rows_behind next ws)
             (joined-found o v now after (apart-found o v now after n.0 n.1)) refl
             (λ ps a. ap (λ x. x ∷ ws) e ∙ ap (λ x. (option_word o ++ codes "=" ++ v) ∷ x) a)
             (same-end from next kinds w ws t)
-            (rest (idle after None place) (λ a. number-ready o v now place here both.1) formed k.1).1,
+            (rest (idle after None place) (λ a. option-ready o v now place here both.1) formed k.1).1,
       )
 
   apart-read : (o : RunOption) (rows : List Row) (p : Pending) (place : Place) → IsReady (idle rows p place) → w ≡ option_word o

@@ -1,5 +1,5 @@
 -- The words of parts that ask for something are taken by the parser behind `run`.
-use Rattle.std.proofs.Common.{◌≡◌, ℕ, true, false, List, [], ◌∷◌, ◌++◌, Some, None, ap, sym, ◌∙◌, subst, refl, ◌⊎◌, inl, inr}
+use Rattle.std.proofs.Common.{◌≡◌, ℕ, true, false, List, [], ◌∷◌, ◌++◌, Option, Some, None, ap, sym, ◌∙◌, subst, refl, ◌⊎◌, inl, inr}
 use Rattle.std.specs.Prelude.{◌==◌, ◌||◌, codes, if◌then◌else◌, not}
 use Rattle.std.specs.Char.{is_ascii_digit}
 use Rattle.std.specs.List.{list_all}
@@ -10,17 +10,18 @@ use Rattle.clap.specs.Kinds.{Kinds, or_else}
 use Rattle.clap.specs.Faults.{settle_fault, use_fault, walk_fault}
 use Rattle.clap.specs.Walk.{Row, Walk, used}
 use Rattle.command_words.specs.declared.run_option.RunOption.{RunOption}
-use Rattle.command_words.specs.declared.run_option.RunOption.TheVariants.{Commits, Moves, Cells}
-use Rattle.command_words.specs.Commands.{default_of, most_of, name_of}
+use Rattle.command_words.specs.declared.run_option.RunOption.TheVariants.{Limit, Control}
+use Rattle.command_words.specs.declared.run_option.RunLimit.TheVariants.{Commits, Moves, Cells}
+use Rattle.command_words.specs.Commands.{name_of}
 use Rattle.command_words.specs.Orders.{is_long_or_plain}
-use Rattle.command_words.specs.Readings.{Gives, Part, apart, is_plain, is_plain_part, is_same, joined, option_word, positional, positionals, values_of, words_of}
-use Rattle.command_words.proofs.Levels.{Place, Slot, first, full, number_rule, place_behind, place_index, place_of, run_leaf, run_rules, second, slot_id, slot_rule, the_file, the_goal}
+use Rattle.command_words.specs.Readings.{GivesNumber, GivesText, Part, apart, is_plain, is_plain_part, is_same, is_value, joined, option_word, positional, positionals, values_of, words_of}
+use Rattle.command_words.proofs.Levels.{Place, Slot, first, full, named_rule, place_behind, place_index, place_of, run_leaf, run_rules, second, slot_id, slot_rule, the_file, the_goal}
 use Rattle.command_words.proofs.PartWords.{IsTidy, Passes, end_of, rows_behind}
 use Rattle.command_words.proofs.Rows.{are_single, is-used, no-row, one-text, texts_at}
-use Rattle.command_words.proofs.Tallies.{HasFound, IsFound, apart-found, found-more, found-none, joined-found, number-placed, values_with, word-found, word-free, word-placed, words_with}
-use Rattle.command_words.proofs.Turns.{IsTurn, Pending, apart-turn, awaiting_at, idle_at, joined-turn, rows-number, rows-word, rows_after_use, settle, settle-number, settle-word, turned, use-passes, value-turn, word-turn}
+use Rattle.command_words.proofs.Tallies.{HasFound, IsFound, apart-found, found-more, found-none, joined-found, option-placed, values_with, word-found, word-free, word-placed, words_with}
+use Rattle.command_words.proofs.Turns.{IsTurn, Pending, apart-turn, awaiting_at, idle_at, joined-turn, rows-option, rows-word, rows_after_use, settle, settle-option, settle-word, turned, use-passes, value-turn, word-turn}
 
--- ---- numbers have no `-` in front
+-- ---- values have no `-` in front
 
 digit-plain : (b : ℕ) → ((b == 45) ≡ true) ⊎ ((b == 45) ≡ false) → is_ascii_digit b ≡ true → not (b == 45) ≡ true
 digit-plain b (inr f) e = ap not f
@@ -41,6 +42,26 @@ number-plain most_digits most (b ∷ bs) n e = go (cases_Bool (is_number most_di
         let bad : None ≡ Some n = ap (λ t. if t then Some (digits_value w) else None) (sym f) ∙ e in
         cc
 
+value-plain : (v : Bytes) → is_value v ≡ true → is_plain v ≡ true
+value-plain [] e = refl
+value-plain (b ∷ bs) e = e
+
+-- one value at most, with no `-` in front
+abbrev pub IsGiven : List Bytes → Type 0
+IsGiven [] = Unit {0}
+IsGiven (v ∷ []) = is_plain v ≡ true
+IsGiven (v ∷ w ∷ vs) = ⊥
+
+pub number-given : (default most : ℕ) (vs : List Bytes) (n : ℕ) → GivesNumber default most vs n → IsGiven vs
+number-given default most [] n h = tt
+number-given default most (v ∷ []) n h = number-plain 8 most v n h
+number-given default most (v ∷ w ∷ vs) n h = h
+
+pub text-given : (vs : List Bytes) (t : Option Bytes) → GivesText vs t → IsGiven vs
+text-given [] t h = tt
+text-given (v ∷ []) t h = value-plain v h.0
+text-given (v ∷ w ∷ vs) t h = h
+
 -- words without `-` in front may stand in a call
 pub plain-stands : (w : Bytes) → is_plain w ≡ true → is_long_or_plain w ≡ true
 plain-stands [] e = refl
@@ -49,14 +70,16 @@ plain-stands (a ∷ b ∷ []) e = e
 plain-stands (a ∷ b ∷ c ∷ rest) e = ap (λ t. t || b == 45) e
 
 option-stands : (o : RunOption) → is_long_or_plain (option_word o) ≡ true
-option-stands Commits = refl
-option-stands Moves = refl
-option-stands Cells = refl
+option-stands (Limit Commits) = refl
+option-stands (Limit Moves) = refl
+option-stands (Limit Cells) = refl
+option-stands Control = refl
 
 joined-stands : (o : RunOption) (v : Bytes) → is_long_or_plain (option_word o ++ codes "=" ++ v) ≡ true
-joined-stands Commits v = refl
-joined-stands Moves v = refl
-joined-stands Cells v = refl
+joined-stands (Limit Commits) v = refl
+joined-stands (Limit Moves) v = refl
+joined-stands (Limit Cells) v = refl
+joined-stands Control v = refl
 
 -- ---- walks that pass
 
@@ -74,8 +97,7 @@ pub record AsksWith (rows : List Row) (parts : List Part) : Type 0 where
   pub file : Bytes
   pub goal : Bytes
   pub words : words_with rows parts ≡ file ∷ goal ∷ []
-  pub numbers : RunOption → ℕ
-  pub values : (o : RunOption) → Gives (default_of o) (most_of o) (values_with o rows parts) (numbers o)
+  pub values : (o : RunOption) → IsGiven (values_with o rows parts)
 
 asks-behind : (p : Part) (parts : List Part) (rows after : List Row) → IsFound p rows after → list_all is_plain_part parts ≡ true
     → AsksWith rows (p ∷ parts)
@@ -85,22 +107,21 @@ asks-behind p parts rows after f plain a = record {
   file = a.file;
   goal = a.goal;
   words = f.words parts ∙ a.words;
-  numbers = a.numbers;
-  values = λ o. subst (λ x. Gives (default_of o) (most_of o) x (a.numbers o)) (sym (f.values o parts)) (a.values o);
+  values = λ o. subst IsGiven (sym (f.values o parts)) (a.values o);
 }
 
 -- the value of an option stands alone
-given-alone : (default most n : ℕ) (xs : List Bytes) (v : Bytes) (ys : List Bytes) → Gives default most (xs ++ v ∷ ys) n
-    → (xs ≡ []) × (number_of 8 most v ≡ Some n)
-given-alone default most n [] v [] h = (refl, h)
-given-alone default most n [] v (y ∷ ys) h = absurd h
-given-alone default most n (x ∷ []) v ys h = absurd h
-given-alone default most n (x ∷ z ∷ xs) v ys h = absurd h
+given-alone : (xs : List Bytes) (v : Bytes) (ys : List Bytes) → IsGiven (xs ++ v ∷ ys) → (xs ≡ []) × (is_plain v ≡ true)
+given-alone [] v [] h = (refl, h)
+given-alone [] v (y ∷ ys) h = absurd h
+given-alone (x ∷ []) v ys h = absurd h
+given-alone (x ∷ z ∷ xs) v ys h = absurd h
 
 pub same-self : (o : RunOption) → is_same o o ≡ true
-same-self Commits = refl
-same-self Moves = refl
-same-self Cells = refl
+same-self (Limit Commits) = refl
+same-self (Limit Moves) = refl
+same-self (Limit Cells) = refl
+same-self Control = refl
 
 as-apart : (o : RunOption) (v : Bytes) (ps : List Part) (rows : List Row) → AsksWith rows (joined o v ∷ ps) → AsksWith rows (apart o v ∷ ps)
 as-apart o v ps rows a = record {
@@ -108,7 +129,6 @@ as-apart o v ps rows a = record {
   file = a.file;
   goal = a.goal;
   words = a.words;
-  numbers = a.numbers;
   values = a.values;
 }
 
@@ -200,23 +220,21 @@ module _ (ps : List Part) (rest : AreTakenFrom ps) (rows : List Row) (p : Pendin
   -- a value of an option that has none yet
   record IsNew (o : RunOption) (v : Bytes) (place : Place) : Type 0 where
     pub plain : is_plain v ≡ true
-    pub tidy : IsTidy place (used (number_rule o) (v ∷ []) now)
-    pub passes : use_fault false (number_rule o) (v ∷ []) now ≡ []
-    pub found : IsFound (apart o v) now (used (number_rule o) (v ∷ []) now)
+    pub tidy : IsTidy place (used (named_rule o) (v ∷ []) now)
+    pub passes : use_fault false (named_rule o) (v ∷ []) now ≡ []
+    pub found : IsFound (apart o v) now (used (named_rule o) (v ∷ []) now)
 
   is-new : (o : RunOption) (v : Bytes) (place : Place) → IsTidy place now → AsksWith now (apart o v ∷ ps) → IsNew o v place
   is-new o v place tidy asks =
-      let values : Gives (default_of o) (most_of o) (texts_at (name_of o) now ++ v ∷ values_of o ps) (asks.numbers o) =
-      subst (λ b. Gives (default_of o) (most_of o)
-      (texts_at (name_of o) now ++ (if b then v ∷ values_of o ps else values_of o ps)) (asks.numbers o))
-      (same-self o) (asks.values o) in
-      let alone = given-alone (default_of o) (most_of o) (asks.numbers o) (texts_at (name_of o) now) v (values_of o ps) values in
+      let values : IsGiven (texts_at (name_of o) now ++ v ∷ values_of o ps) =
+      subst (λ b. IsGiven (texts_at (name_of o) now ++ (if b then v ∷ values_of o ps else values_of o ps))) (same-self o) (asks.values o) in
+      let alone = given-alone (texts_at (name_of o) now) v (values_of o ps) values in
       let free = no-row (name_of o) now tidy.1 alone.0 in
       let u = is-used (name_of o) (Some (name_of o)) None v now free in
-      let after = used (number_rule o) (v ∷ []) now in
+      let after = used (named_rule o) (v ∷ []) now in
       record {
-        plain = number-plain 8 (most_of o) v (asks.numbers o) alone.1;
-        tidy = (number-placed o place v now after tidy.0 u, u.single tidy.1);
+        plain = alone.1;
+        tidy = (option-placed o place v now after tidy.0 u, u.single tidy.1);
         passes = use-passes (name_of o) (Some (name_of o)) None v now free;
         found = apart-found o v now after free u;
       }
@@ -226,16 +244,16 @@ module _ (ps : List Part) (rest : AreTakenFrom ps) (rows : List Row) (p : Pendin
   apart-taken o v place tidy asks =
       let k = place_index place in
       let new = is-new o v place tidy asks in
-      let after = used (number_rule o) (v ∷ []) now in
+      let after = used (named_rule o) (v ∷ []) now in
       let s = Some (name_of o, v ∷ []) in
-      let is_after = sym (rows-number o v now) in
+      let is_after = sym (rows-option o v now) in
       part-taken (idle_at rows p k) (apart o v) (option_word o ∷ v ∷ words_of ps) now after ps new.found
       (word-taken (idle_at rows p k) (awaiting_at o now k) (settle rows p) (option_word o) (v ∷ words_of ps) after ps
       (apart-turn o rows p k) settles (option-stands o)
       (word-taken (awaiting_at o now k) (idle_at now s k) [] v (words_of ps) after ps (value-turn o now k v new.plain) refl
       (plain-stands v new.plain)
-      (subst (λ x. AreTaken (idle_at now s k) (words_of ps) x ps) (rows-number o v now)
-      (rest now s place (subst (IsTidy place) is_after new.tidy) (settle-number o v now ∙ new.passes)
+      (subst (λ x. AreTaken (idle_at now s k) (words_of ps) x ps) (rows-option o v now)
+      (rest now s place (subst (IsTidy place) is_after new.tidy) (settle-option o v now ∙ new.passes)
       (subst (λ x. AsksWith x ps) is_after (asks-behind (apart o v) ps now after new.found asks.plain asks))))))
 
   joined-taken : (o : RunOption) (v : Bytes) (place : Place) → IsTidy place now → AsksWith now (joined o v ∷ ps)
@@ -243,12 +261,12 @@ module _ (ps : List Part) (rest : AreTakenFrom ps) (rows : List Row) (p : Pendin
   joined-taken o v place tidy asks =
       let k = place_index place in
       let new = is-new o v place tidy (as-apart o v ps now asks) in
-      let after = used (number_rule o) (v ∷ []) now in
+      let after = used (named_rule o) (v ∷ []) now in
       let found = joined-found o v now after new.found in
       part-taken (idle_at rows p k) (joined o v) ((option_word o ++ codes "=" ++ v) ∷ words_of ps) now after ps found
-      (word-taken (idle_at rows p k) (idle_at after None k) (or_else (settle rows p) (use_fault false (number_rule o) (v ∷ []) now))
+      (word-taken (idle_at rows p k) (idle_at after None k) (or_else (settle rows p) (use_fault false (named_rule o) (v ∷ []) now))
       (option_word o ++ codes "=" ++ v) (words_of ps) after ps
-      (joined-turn o rows p k v) (ap (λ x. or_else x (use_fault false (number_rule o) (v ∷ []) now)) settles ∙ new.passes)
+      (joined-turn o rows p k v) (ap (λ x. or_else x (use_fault false (named_rule o) (v ∷ []) now)) settles ∙ new.passes)
       (joined-stands o v)
       (rest after None place new.tidy refl (asks-behind (joined o v) ps now after found asks.plain asks)))
 

@@ -6,7 +6,8 @@ use Rattle.std.proofs.lemmas.List.{append-nil}
 use Rattle.fcp_model.specs.Spelling.{Bytes}
 use Rattle.clap.specs.Walk.{Row, has_row}
 use Rattle.command_words.specs.declared.run_option.RunOption.{RunOption}
-use Rattle.command_words.specs.declared.run_option.RunOption.TheVariants.{Commits, Moves, Cells}
+use Rattle.command_words.specs.declared.run_option.RunOption.TheVariants.{Limit, Control}
+use Rattle.command_words.specs.declared.run_option.RunLimit.TheVariants.{Commits, Moves, Cells}
 use Rattle.command_words.specs.Commands.{name_of}
 use Rattle.command_words.specs.Readings.{Part, apart, is_same, joined, positional, positionals, values_of}
 use Rattle.command_words.proofs.Levels.{Place, Slot, first, full, place_behind, place_of, second, slot_id, the_file, the_goal}
@@ -29,18 +30,20 @@ word-placed the_file w rows after h u = (u.has (codes "file"), u.has (codes "goa
 word-placed the_goal w rows after h u = (u.has (codes "file") ∙ h.0, u.has (codes "goal"))
 
 no-file : (o : RunOption) → bytes_eq (name_of o) (codes "file") ≡ false
-no-file Commits = refl
-no-file Moves = refl
-no-file Cells = refl
+no-file (Limit Commits) = refl
+no-file (Limit Moves) = refl
+no-file (Limit Cells) = refl
+no-file Control = refl
 
 no-goal : (o : RunOption) → bytes_eq (name_of o) (codes "goal") ≡ false
-no-goal Commits = refl
-no-goal Moves = refl
-no-goal Cells = refl
+no-goal (Limit Commits) = refl
+no-goal (Limit Moves) = refl
+no-goal (Limit Cells) = refl
+no-goal Control = refl
 
-pub number-placed : (o : RunOption) (place : Place) (v : Bytes) (rows after : List Row) → IsAt place rows → IsUsed (name_of o) v rows after
+pub option-placed : (o : RunOption) (place : Place) (v : Bytes) (rows after : List Row) → IsAt place rows → IsUsed (name_of o) v rows after
     → IsAt place after
-number-placed o place v rows after h u =
+option-placed o place v rows after h u =
     let file : has_row (codes "file") after ≡ has_row (codes "file") rows =
     u.has (codes "file") ∙ ap (λ b. b || has_row (codes "file") rows) (no-file o) in
     let goal : has_row (codes "goal") after ≡ has_row (codes "goal") rows =
@@ -71,15 +74,17 @@ other-values : (id v : Bytes) (o : RunOption) (rows after : List Row) → IsUsed
     → texts_at (name_of o) after ≡ texts_at (name_of o) rows
 other-values id v o rows after u e = u.texts (name_of o) ∙ ap (λ b. if b then v ∷ [] else texts_at (name_of o) rows) e
 
-file-number : (o : RunOption) → bytes_eq (codes "file") (name_of o) ≡ false
-file-number Commits = refl
-file-number Moves = refl
-file-number Cells = refl
+file-option : (o : RunOption) → bytes_eq (codes "file") (name_of o) ≡ false
+file-option (Limit Commits) = refl
+file-option (Limit Moves) = refl
+file-option (Limit Cells) = refl
+file-option Control = refl
 
-goal-number : (o : RunOption) → bytes_eq (codes "goal") (name_of o) ≡ false
-goal-number Commits = refl
-goal-number Moves = refl
-goal-number Cells = refl
+goal-option : (o : RunOption) → bytes_eq (codes "goal") (name_of o) ≡ false
+goal-option (Limit Commits) = refl
+goal-option (Limit Moves) = refl
+goal-option (Limit Cells) = refl
+goal-option Control = refl
 
 file-found : (w : Bytes) (rows after : List Row) → IsAt first rows → IsUsed (codes "file") w rows after
     → IsFound (positional w) rows after
@@ -90,7 +95,7 @@ file-found w rows after h u =
     let no_goal = none-texts (codes "goal") rows h.1 in
     record {
       words = λ parts. rw (file, goal, no_file, no_goal);
-      values = λ o parts. ap (λ x. x ++ values_of o parts) (other-values (codes "file") w o rows after u (file-number o));
+      values = λ o parts. ap (λ x. x ++ values_of o parts) (other-values (codes "file") w o rows after u (file-option o));
     }
 
 goal-found : (w : Bytes) (rows after : List Row) → IsAt second rows → IsUsed (codes "goal") w rows after
@@ -101,7 +106,7 @@ goal-found w rows after h u =
       words = λ parts.
           ap (λ x. x ++ (texts_at (codes "goal") after ++ positionals parts)) file
           ∙ ap (λ x. texts_at (codes "file") rows ++ x) (more-texts (codes "goal") w rows after u h.1 (codes "goal") (positionals parts));
-      values = λ o parts. ap (λ x. x ++ values_of o parts) (other-values (codes "goal") w o rows after u (goal-number o));
+      values = λ o parts. ap (λ x. x ++ values_of o parts) (other-values (codes "goal") w o rows after u (goal-option o));
     }
 
 pub word-found : (s : Slot) (w : Bytes) (rows after : List Row) → IsAt (place_of s) rows → IsUsed (slot_id s) w rows after
@@ -110,15 +115,22 @@ word-found the_file w rows after h u = file-found w rows after h u
 word-found the_goal w rows after h u = goal-found w rows after h u
 
 same-names : (o p : RunOption) → bytes_eq (name_of p) (name_of o) ≡ is_same o p
-same-names Commits Commits = refl
-same-names Commits Moves = refl
-same-names Commits Cells = refl
-same-names Moves Commits = refl
-same-names Moves Moves = refl
-same-names Moves Cells = refl
-same-names Cells Commits = refl
-same-names Cells Moves = refl
-same-names Cells Cells = refl
+same-names (Limit Commits) (Limit Commits) = refl
+same-names (Limit Commits) (Limit Moves) = refl
+same-names (Limit Commits) (Limit Cells) = refl
+same-names (Limit Commits) Control = refl
+same-names (Limit Moves) (Limit Commits) = refl
+same-names (Limit Moves) (Limit Moves) = refl
+same-names (Limit Moves) (Limit Cells) = refl
+same-names (Limit Moves) Control = refl
+same-names (Limit Cells) (Limit Commits) = refl
+same-names (Limit Cells) (Limit Moves) = refl
+same-names (Limit Cells) (Limit Cells) = refl
+same-names (Limit Cells) Control = refl
+same-names Control (Limit Commits) = refl
+same-names Control (Limit Moves) = refl
+same-names Control (Limit Cells) = refl
+same-names Control Control = refl
 
 pub apart-found : (p : RunOption) (v : Bytes) (rows after : List Row) → has_row (name_of p) rows ≡ false
     → IsUsed (name_of p) v rows after

@@ -9,11 +9,12 @@ use Rattle.clap.specs.Faults.{long_fault, settle_fault, turn_fault, use_fault, w
 use Rattle.clap.specs.Lexer.{long_of}
 use Rattle.clap.specs.Walk.{Held, Row, Rule, Walk, Waiting, arg_by_long, has_row, idle, is_pending, option, settled_rows, subcommand_met, used, walked}
 use Rattle.command_words.specs.declared.run_option.RunOption.{RunOption}
-use Rattle.command_words.specs.declared.run_option.RunOption.TheVariants.{Commits, Moves, Cells}
+use Rattle.command_words.specs.declared.run_option.RunOption.TheVariants.{Limit, Control}
+use Rattle.command_words.specs.declared.run_option.RunLimit.TheVariants.{Commits, Moves, Cells}
 use Rattle.command_words.specs.Commands.{name_of}
 use Rattle.command_words.specs.Readings.{is_plain, option_word}
 use Rattle.command_words.proofs.Forms.{IsLong, IsPlainWord, dashes, long-rule, plain-word}
-use Rattle.command_words.proofs.Levels.{Slot, given_rule, number_rule, or_else-none, place_behind, place_index, place_of, run_leaf, run_rules, slot_id, slot_rule, the_file, the_goal}
+use Rattle.command_words.proofs.Levels.{Slot, given_rule, named_rule, or_else-none, place_behind, place_index, place_of, run_leaf, run_rules, slot_id, slot_rule, the_file, the_goal}
 
 -- ---- where the parser stands between two words
 
@@ -73,22 +74,25 @@ pub use-passes : (id : Bytes) (long : Option Bytes) (index : Option ℕ) (v : By
     → use_fault false (given_rule id long index) (v ∷ []) rows ≡ []
 use-passes id long index v rows e = rw e
 
-pub settle-number : (o : RunOption) (v : Bytes) (rows : List Row)
-    → settle rows (Some (name_of o, v ∷ [])) ≡ use_fault false (number_rule o) (v ∷ []) rows
-settle-number Commits v rows = refl
-settle-number Moves v rows = refl
-settle-number Cells v rows = refl
+pub settle-option : (o : RunOption) (v : Bytes) (rows : List Row)
+    → settle rows (Some (name_of o, v ∷ [])) ≡ use_fault false (named_rule o) (v ∷ []) rows
+settle-option (Limit Commits) v rows = refl
+settle-option (Limit Moves) v rows = refl
+settle-option (Limit Cells) v rows = refl
+settle-option Control v rows = refl
 
 pub settle-awaiting : (o : RunOption) (rows : List Row) → settle rows (Some (name_of o, [])) ≡ InvalidValue ∷ []
-settle-awaiting Commits rows = refl
-settle-awaiting Moves rows = refl
-settle-awaiting Cells rows = refl
+settle-awaiting (Limit Commits) rows = refl
+settle-awaiting (Limit Moves) rows = refl
+settle-awaiting (Limit Cells) rows = refl
+settle-awaiting Control rows = refl
 
-pub rows-number : (o : RunOption) (v : Bytes) (rows : List Row)
-    → rows_after_use rows (Some (name_of o, v ∷ [])) ≡ used (number_rule o) (v ∷ []) rows
-rows-number Commits v rows = refl
-rows-number Moves v rows = refl
-rows-number Cells v rows = refl
+pub rows-option : (o : RunOption) (v : Bytes) (rows : List Row)
+    → rows_after_use rows (Some (name_of o, v ∷ [])) ≡ used (named_rule o) (v ∷ []) rows
+rows-option (Limit Commits) v rows = refl
+rows-option (Limit Moves) v rows = refl
+rows-option (Limit Cells) v rows = refl
+rows-option Control v rows = refl
 
 -- ---- positional words
 
@@ -125,39 +129,44 @@ module _ (rows : List Row) (p : Pending) (word : Bytes) (plain_word : is_plain w
 pub value-turn : (o : RunOption) (rows : List Row) (k : ℕ) (v : Bytes) → is_plain v ≡ true
     → IsTurn (awaiting_at o rows k) v [] (idle_at rows (Some (name_of o, v ∷ [])) k)
 unfolding walked
-value-turn Commits rows k v e =
+value-turn (Limit Commits) rows k v e =
     let w = plain-word v e in
     record { fault = rw (w.no_end, w.no_long, w.no_short); leads = rw (w.no_end, w.no_long, w.no_short) }
-value-turn Moves rows k v e =
+value-turn (Limit Moves) rows k v e =
     let w = plain-word v e in
     record { fault = rw (w.no_end, w.no_long, w.no_short); leads = rw (w.no_end, w.no_long, w.no_short) }
-value-turn Cells rows k v e =
+value-turn (Limit Cells) rows k v e =
+    let w = plain-word v e in
+    record { fault = rw (w.no_end, w.no_long, w.no_short); leads = rw (w.no_end, w.no_long, w.no_short) }
+value-turn Control rows k v e =
     let w = plain-word v e in
     record { fault = rw (w.no_end, w.no_long, w.no_short); leads = rw (w.no_end, w.no_long, w.no_short) }
 
 -- ---- options
 
 abbrev joined_kinds : RunOption → List Row → Pending → Bytes → Kinds
-joined_kinds o rows p v = or_else (settle rows p) (use_fault false (number_rule o) (v ∷ []) (rows_after_use rows p))
+joined_kinds o rows p v = or_else (settle rows p) (use_fault false (named_rule o) (v ∷ []) (rows_after_use rows p))
 
 pub joined-turn : (o : RunOption) (rows : List Row) (p : Pending) (k : ℕ) (v : Bytes)
     → IsTurn (idle_at rows p k) (option_word o ++ codes "=" ++ v) (joined_kinds o rows p v)
-    (idle_at (used (number_rule o) (v ∷ []) (rows_after_use rows p)) None k)
+    (idle_at (used (named_rule o) (v ∷ []) (rows_after_use rows p)) None k)
 unfolding walked
-joined-turn Commits rows p k v = record { fault = or_else-none (joined_kinds Commits rows p v); leads = refl }
-joined-turn Moves rows p k v = record { fault = or_else-none (joined_kinds Moves rows p v); leads = refl }
-joined-turn Cells rows p k v = record { fault = or_else-none (joined_kinds Cells rows p v); leads = refl }
+joined-turn (Limit Commits) rows p k v = record { fault = or_else-none (joined_kinds (Limit Commits) rows p v); leads = refl }
+joined-turn (Limit Moves) rows p k v = record { fault = or_else-none (joined_kinds (Limit Moves) rows p v); leads = refl }
+joined-turn (Limit Cells) rows p k v = record { fault = or_else-none (joined_kinds (Limit Cells) rows p v); leads = refl }
+joined-turn Control rows p k v = record { fault = or_else-none (joined_kinds Control rows p v); leads = refl }
 
 pub apart-turn : (o : RunOption) (rows : List Row) (p : Pending) (k : ℕ)
     → IsTurn (idle_at rows p k) (option_word o) (settle rows p) (awaiting_at o (rows_after_use rows p) k)
 unfolding walked
-apart-turn Commits rows p k = record { fault = or_else-none (settle rows p); leads = refl }
-apart-turn Moves rows p k = record { fault = or_else-none (settle rows p); leads = refl }
-apart-turn Cells rows p k = record { fault = or_else-none (settle rows p); leads = refl }
+apart-turn (Limit Commits) rows p k = record { fault = or_else-none (settle rows p); leads = refl }
+apart-turn (Limit Moves) rows p k = record { fault = or_else-none (settle rows p); leads = refl }
+apart-turn (Limit Cells) rows p k = record { fault = or_else-none (settle rows p); leads = refl }
+apart-turn Control rows p k = record { fault = or_else-none (settle rows p); leads = refl }
 
 -- ---- words that fail
 
-long-fails : (rule : Option Rule) (v : Option Bytes) (h : Held) → (rule ≡ None) ⊎ ((o : RunOption) × (rule ≡ Some (number_rule o)))
+long-fails : (rule : Option Rule) (v : Option Bytes) (h : Held) → (rule ≡ None) ⊎ ((o : RunOption) × (rule ≡ Some (named_rule o)))
     → (settle_fault run_rules false h ≡ [] → ⊥)
     → long_fault run_rules false rule v h ≡ []
     → ⊥

@@ -12,10 +12,11 @@ use Rattle.command_words.specs.declared.order.Order.{Order}
 use Rattle.command_words.specs.declared.order.Order.TheVariants.{Run, Show}
 use Rattle.command_words.specs.declared.order.WordFault.{WordFault}
 use Rattle.command_words.specs.declared.order.WordFault.TheVariants.{Usage, NoMemory}
-use Rattle.command_words.specs.declared.run_option.RunOption.{RunOption}
-use Rattle.command_words.specs.declared.run_option.RunOption.TheVariants.{Commits, Moves, Cells}
+use Rattle.command_words.specs.declared.run_option.RunOption.TheVariants.{Limit, Control}
+use Rattle.command_words.specs.declared.run_option.RunLimit.{RunLimit}
+use Rattle.command_words.specs.declared.run_option.RunLimit.TheVariants.{Commits, Moves, Cells}
 use Rattle.command_words.specs.Commands.{default_of, logix, most_of, name_of}
-use Rattle.command_words.specs.Readings.{is_proper}
+use Rattle.command_words.specs.Readings.{is_proper, is_value}
 
 -- ---- before the parser
 
@@ -45,13 +46,13 @@ fault_by _ = Usage
 
 -- ---- behind the parser
 
--- the number of an option's value, or of no value
-abbrev pub number_from : RunOption → Option Bytes → Option ℕ
-number_from o None = Some (default_of o)
-number_from o (Some v) = number_of 8 (most_of o) v
+-- the number of a limit's value, or of no value
+abbrev pub number_from : RunLimit → Option Bytes → Option ℕ
+number_from l None = Some (default_of l)
+number_from l (Some v) = number_of 8 (most_of l) v
 
-abbrev pub number_in : RunOption → List Row → Option ℕ
-number_in o rows = number_from o (first_of (name_of o) rows)
+abbrev pub number_in : RunLimit → List Row → Option ℕ
+number_in l rows = number_from l (first_of (name_of (Limit l)) rows)
 
 abbrev pub limits_from : Option ℕ → Option ℕ → Option ℕ → Option Limits
 limits_from (Some commits) (Some moves) (Some cells) = Some (record { commits = commits; moves = moves; cells = cells })
@@ -60,13 +61,21 @@ limits_from _ _ _ = None
 abbrev pub limits_in : List Row → Option Limits
 limits_in rows = limits_from (number_in Commits rows) (number_in Moves rows) (number_in Cells rows)
 
-abbrev pub run_from : Option Bytes → Option Bytes → Option Limits → Option Order
-run_from (Some file) (Some goal) (Some limits) = Some (Run file goal limits)
-run_from _ _ _ = None
+-- the control text that a value is, or that there is none
+abbrev pub control_from : Option Bytes → Option (Option Bytes)
+control_from None = Some None
+control_from (Some v) = if is_value v then Some (Some v) else None
+
+abbrev pub control_in : List Row → Option (Option Bytes)
+control_in rows = control_from (first_of (name_of Control) rows)
+
+abbrev pub run_from : Option Bytes → Option Bytes → Option Limits → Option (Option Bytes) → Option Order
+run_from (Some file) (Some goal) (Some limits) (Some control) = Some (Run file goal limits control)
+run_from _ _ _ _ = None
 
 -- the run that the matches behind `run` ask for
 abbrev pub run_in : List Row → Option Order
-run_in rows = run_from (first_of (codes "file") rows) (first_of (codes "goal") rows) (limits_in rows)
+run_in rows = run_from (first_of (codes "file") rows) (first_of (codes "goal") rows) (limits_in rows) (control_in rows)
 
 -- the order that the matches behind `show` ask for
 abbrev pub show_in : List Row → Option Order
@@ -80,8 +89,8 @@ order_by command rows =
 abbrev pub order_in : Option (Bytes × List Row) → Option Order
 order_in = option_and_then (λ p. order_by p.0 p.1)
 
--- what is answered where this is asked for, or nothing is: memory can run out where there is an order to be kept
-abbrev pub Answers : Option Order → Result Order WordFault → Type 0
+-- what is answered where this is asked for, or nothing is: memory can run out where there is something to be kept
+abbrev pub Answers : {A : Type 0} → Option A → Result A WordFault → Type 0
 Answers o (Ok x) = o ≡ Some x
 Answers o (Err Usage) = o ≡ None
 Answers o (Err NoMemory) = is_some o ≡ true

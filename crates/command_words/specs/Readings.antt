@@ -1,11 +1,13 @@
 -- What the words of a call ask for.
-use Rattle.std.specs.Prelude.{◌≡◌, ◌==◌, ℕ, Bool, true, false, not, ◌&&◌, nat_le, List, [], ◌∷◌, ◌++◌, length, codes, Some, Result, Ok, Err, if◌then◌else◌}
+use Rattle.std.specs.Prelude.{◌≡◌, ◌==◌, ℕ, Bool, true, false, not, ◌&&◌, nat_le, List, [], ◌∷◌, ◌++◌, length, codes, Option, Some, None, Result, Ok, Err, if◌then◌else◌}
 use Rattle.std.specs.List.{list_all}
+use Rattle.std.specs.Option.{option_map_or}
 use Rattle.fcp_model.specs.declared.run.Limits.{Limits}
 use Rattle.fcp_model.specs.Spelling.{Bytes}
 use Rattle.word_numbers.specs.Numbers.{number_of}
 use Rattle.command_words.specs.declared.run_option.RunOption.{RunOption}
-use Rattle.command_words.specs.declared.run_option.RunOption.TheVariants.{Commits, Moves, Cells}
+use Rattle.command_words.specs.declared.run_option.RunOption.TheVariants.{Limit, Control}
+use Rattle.command_words.specs.declared.run_option.RunLimit.TheVariants.{Commits, Moves, Cells}
 use Rattle.command_words.specs.declared.order.Order.{Order}
 use Rattle.command_words.specs.declared.order.Order.TheVariants.{Run, Show}
 use Rattle.command_words.specs.declared.order.WordFault.{WordFault}
@@ -24,9 +26,10 @@ is_plain (b ∷ bs) = not (b == 45)
 
 -- the word of an option
 abbrev pub option_word : RunOption → Bytes
-option_word Commits = codes "--commits"
-option_word Moves = codes "--moves"
-option_word Cells = codes "--cells"
+option_word (Limit Commits) = codes "--commits"
+option_word (Limit Moves) = codes "--moves"
+option_word (Limit Cells) = codes "--cells"
+option_word Control = codes "--control"
 
 -- ---- the words behind `run`
 
@@ -58,9 +61,10 @@ positionals (joined o v ∷ ps) = positionals ps
 
 -- two options are one
 abbrev pub is_same : RunOption → RunOption → Bool
-is_same Commits Commits = true
-is_same Moves Moves = true
-is_same Cells Cells = true
+is_same (Limit Commits) (Limit Commits) = true
+is_same (Limit Moves) (Limit Moves) = true
+is_same (Limit Cells) (Limit Cells) = true
+is_same Control Control = true
 is_same _ _ = false
 
 -- the values of an option, in order
@@ -70,31 +74,44 @@ values_of o (positional w ∷ ps) = values_of o ps
 values_of o (apart p v ∷ ps) = if is_same o p then v ∷ values_of o ps else values_of o ps
 values_of o (joined p v ∷ ps) = if is_same o p then v ∷ values_of o ps else values_of o ps
 
--- These values of an option give this number: it stands once at most. Its value has 1 to 8 digits, so it is not empty and
--- has no `-` in front, and is at most `most`. Without it the number is the default.
-abbrev pub Gives : ℕ → ℕ → List Bytes → ℕ → Type 0
-Gives default most [] n = n ≡ default
-Gives default most (v ∷ []) n = number_of 8 most v ≡ Some n
-Gives default most (v ∷ w ∷ vs) n = ⊥
+-- These values of a limit's option give this number: it stands once at most. Its value has 1 to 8 digits, so it is not empty
+-- and has no `-` in front, and is at most `most`. Without it the number is the default.
+abbrev pub GivesNumber : ℕ → ℕ → List Bytes → ℕ → Type 0
+GivesNumber default most [] n = n ≡ default
+GivesNumber default most (v ∷ []) n = number_of 8 most v ≡ Some n
+GivesNumber default most (v ∷ w ∷ vs) n = ⊥
 
--- the words behind `run` are these parts, and ask for the run of the goal over the file's module within the limits
-pub record AreRunParts (words : List Bytes) (parts : List Part) (file goal : Bytes) (limits : Limits) : Type 0 where
+-- not empty, and no `-` stands in front
+abbrev pub is_value : Bytes → Bool
+is_value [] = false
+is_value (b ∷ bs) = not (b == 45)
+
+-- these values of an option give this text, which is its value, or none: it stands once at most
+abbrev pub GivesText : List Bytes → Option Bytes → Type 0
+GivesText [] text = text ≡ None
+GivesText (v ∷ []) text = (is_value v ≡ true) × (text ≡ Some v)
+GivesText (v ∷ w ∷ vs) text = ⊥
+
+-- The words behind `run` are these parts, and ask for the run of the goal over the file's module within the limits, with this control
+-- text or none.
+pub record AreRunParts (words : List Bytes) (parts : List Part) (file goal : Bytes) (limits : Limits) (control : Option Bytes) : Type 0 where
   pub spelled : words ≡ words_of parts
   pub plain : list_all is_plain_part parts ≡ true
   pub two : positionals parts ≡ file ∷ goal ∷ []
-  pub commits : Gives 1000000 1000000 (values_of Commits parts) limits.commits
-  pub moves : Gives 1000000 1000000 (values_of Moves parts) limits.moves
-  pub cells : Gives 8000000 64000000 (values_of Cells parts) limits.cells
+  pub commits : GivesNumber 1000000 1000000 (values_of (Limit Commits) parts) limits.commits
+  pub moves : GivesNumber 1000000 1000000 (values_of (Limit Moves) parts) limits.moves
+  pub cells : GivesNumber 8000000 64000000 (values_of (Limit Cells) parts) limits.cells
+  pub asked : GivesText (values_of Control parts) control
 
 -- ---- calls
 
 -- `run FILE GOAL`, with options before, between and behind the two
-pub record IsRun (words : List Bytes) (file goal : Bytes) (limits : Limits) : Type 0 where
+pub record IsRun (words : List Bytes) (file goal : Bytes) (limits : Limits) (control : Option Bytes) : Type 0 where
   pub behind : List Bytes
   pub command : words ≡ codes "run" ∷ behind
   pub proper : list_all is_proper words ≡ true
   pub parts : List Part
-  pub are_parts : AreRunParts behind parts file goal limits
+  pub are_parts : AreRunParts behind parts file goal limits control
 
 -- `show FILE`
 pub record IsShow (words : List Bytes) (file : Bytes) : Type 0 where
@@ -104,7 +121,7 @@ pub record IsShow (words : List Bytes) (file : Bytes) : Type 0 where
 
 -- by the command
 abbrev pub AskFor : List Bytes → Order → Type 0
-AskFor words (Run file goal limits) = IsRun words file goal limits
+AskFor words (Run file goal limits control) = IsRun words file goal limits control
 AskFor words (Show file) = IsShow words file
 
 -- the words ask for this
@@ -125,10 +142,10 @@ ReadsWords words (Err NoMemory) = Unit {0}
 
 -- the file that an order names
 abbrev pub file_of : Order → Bytes
-file_of (Run file goal limits) = file
+file_of (Run file goal limits control) = file
 file_of (Show file) = file
 
 -- its words have 1 to 65,536 bytes
 abbrev pub has_words : Order → Bool
-has_words (Run file goal limits) = is_proper file && is_proper goal
+has_words (Run file goal limits control) = is_proper file && is_proper goal && option_map_or is_proper control true
 has_words (Show file) = is_proper file

@@ -7,7 +7,7 @@ ghost use Rattle.clap.specs.declared.error.kind.ErrorKind.TheVariants.{OutOfMemo
 ghost use Rattle.command_words.specs.Commands.{logix, option_rule, run, show};
 ghost use Rattle.command_words.specs.Orders.{Parses, fault_by};
 
-use crate::{RunOption, WordFault};
+use crate::{RunLimit, RunOption, WordFault};
 use clap::error::ErrorKind;
 use clap::{Arg, ArgMatches, Command, Error};
 use std::alloc::Global;
@@ -63,9 +63,10 @@ fn run<'a>(alloc: Global) -> Result<Command<'a>, Error>
     let command = Command::new(alloc, "run")
         .arg(Arg::new(alloc, "file"))?
         .arg(Arg::new(alloc, "goal"))?
-        .arg(option(alloc, RunOption::Commits))?
-        .arg(option(alloc, RunOption::Moves))?
-        .arg(option(alloc, RunOption::Cells))?;
+        .arg(option(alloc, RunOption::Limit(RunLimit::Commits)))?
+        .arg(option(alloc, RunOption::Limit(RunLimit::Moves)))?
+        .arg(option(alloc, RunOption::Limit(RunLimit::Cells)))?
+        .arg(option(alloc, RunOption::Control))?;
     Ok(command)
 }
 

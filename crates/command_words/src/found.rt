@@ -2,8 +2,9 @@
 ghost use Rattle.std.specs.Prelude.{◌≡◌, option_map};
 ghost use Rattle.clap.specs.Words.{first_of, found_of, rows_of, subcommand_rows_of};
 ghost use Rattle.command_words.specs.Orders as spec;
+ghost use Rattle.command_words.specs.Readings.{is_value};
 
-use crate::{Order, RunOption, WordFault};
+use crate::{Order, RunLimit, RunOption, WordFault};
 use clap::ArgMatches;
 use fcp_model::{Limits, Text};
 use std::alloc::Global;
@@ -32,11 +33,15 @@ fn run_in(alloc: Global, matches: &ArgMatches<'_>) -> Result<Order, WordFault>
     let file = word(matches, "file");
     let goal = word(matches, "goal");
     match (file, goal, limits_in(matches)) {
-        (Some(file), Some(goal), Some(limits)) => Ok(Order::Run {
-            file: Text::make(alloc, file)?,
-            goal: Text::make(alloc, goal)?,
-            limits,
-        }),
+        (Some(file), Some(goal), Some(limits)) => {
+            let control = control_in(alloc, matches)?;
+            Ok(Order::Run {
+                file: Text::make(alloc, file)?,
+                goal: Text::make(alloc, goal)?,
+                limits,
+                control,
+            })
+        }
         _ => Err(WordFault::Usage),
     }
 }
@@ -58,19 +63,40 @@ fn limits_in(matches: &ArgMatches<'_>) -> Option<Limits>
     ensures { result ≡ spec.limits_in (rows_of (found_of matches.now)) }
 {
     Some(Limits {
-        commits: number_in(matches, RunOption::Commits)?,
-        moves: number_in(matches, RunOption::Moves)?,
-        cells: number_in(matches, RunOption::Cells)?,
+        commits: number_in(matches, RunLimit::Commits)?,
+        moves: number_in(matches, RunLimit::Moves)?,
+        cells: number_in(matches, RunLimit::Cells)?,
     })
 }
 
-/// The number that an option gives, or `None` where its value is no number in its range.
-fn number_in(matches: &ArgMatches<'_>, option: RunOption) -> Option<u32>
-    ensures { result ≡ spec.number_in option (rows_of (found_of matches.now)) }
+/// The number of a limit, or `None` where its value is no number in its range.
+fn number_in(matches: &ArgMatches<'_>, limit: RunLimit) -> Option<u32>
+    ensures { result ≡ spec.number_in limit (rows_of (found_of matches.now)) }
 {
-    match word(matches, option.name()) {
-        Some(digits) => number_of(digits.as_bytes(), MOST_DIGITS, option.most()),
-        None => Some(option.default_number()),
+    match word(matches, RunOption::Limit(limit).name()) {
+        Some(digits) => number_of(digits.as_bytes(), MOST_DIGITS, limit.most()),
+        None => Some(limit.default_number()),
+    }
+}
+
+/// The control text, if one is given. A value that is empty or begins with `-` is a usage fault.
+fn control_in(alloc: Global, matches: &ArgMatches<'_>) -> Result<Option<Text>, WordFault>
+    ensures { spec.Answers (spec.control_in (rows_of (found_of matches.now))) result }
+{
+    match word(matches, RunOption::Control.name()) {
+        None => Ok(None),
+        Some(text) if is_value(text.as_bytes()) => Ok(Some(Text::make(alloc, text)?)),
+        Some(_) => Err(WordFault::Usage),
+    }
+}
+
+/// Whether a value is not empty and no `-` stands in front.
+fn is_value(value: &[u8]) -> bool
+    ensures { result ≡ is_value value.now }
+{
+    match value {
+        [] | [b'-', ..] => false,
+        _ => true,
     }
 }
 

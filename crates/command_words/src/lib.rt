@@ -16,7 +16,7 @@ mod run_option;
 use command::parse;
 use found::order_in;
 pub use order::{Order, WordFault};
-pub use run_option::RunOption;
+pub use run_option::{RunLimit, RunOption};
 use std::alloc::Global;
 
 /// The most bytes of a word.

@@ -8,11 +8,12 @@ use thiserror::Error;
 /// What the words of a call ask for.
 #[derive(Debug, Drop)]
 pub enum Order {
-    /// The run of a goal, by its text, over the module of a file, by its name.
+    /// The run of a goal, by its text, over the module of a file, by its name, with a control text where one is given.
     Run {
         file: Text,
         goal: Text,
         limits: Limits,
+        control: Option<Text>,
     },
     /// The canonical text of the module of a file, by its name.
     Show {

@@ -5,6 +5,15 @@ ghost use Rattle.command_words.specs.Commands.{default_of, most_of, name_of};
 /// An option of `run`.
 #[derive(Clone, Copy, Debug, PartialEq, Eq)]
 pub enum RunOption {
+    /// A limit of the run, by a number.
+    Limit(RunLimit),
+    /// What is asked of the run beforehand, by a control text.
+    Control,
+}
+
+/// A limit of a run.
+#[derive(Clone, Copy, Debug, PartialEq, Eq)]
+pub enum RunLimit {
     /// The most commits.
     Commits,
     /// The most moves.
@@ -19,19 +28,22 @@ impl RunOption {
         ensures { result.now ≡ name_of self }
     {
         match self {
-            RunOption::Commits => "commits",
-            RunOption::Moves => "moves",
-            RunOption::Cells => "cells",
+            RunOption::Limit(RunLimit::Commits) => "commits",
+            RunOption::Limit(RunLimit::Moves) => "moves",
+            RunOption::Limit(RunLimit::Cells) => "cells",
+            RunOption::Control => "control",
         }
     }
+}
 
+impl RunLimit {
     /// The number without the option.
     pub(crate) fn default_number(self) -> u32
         ensures { result ≡ default_of self }
     {
         match self {
-            RunOption::Commits | RunOption::Moves => 1_000_000,
-            RunOption::Cells => 8_000_000,
+            RunLimit::Commits | RunLimit::Moves => 1_000_000,
+            RunLimit::Cells => 8_000_000,
         }
     }
 
@@ -40,8 +52,8 @@ impl RunOption {
         ensures { result ≡ most_of self }
     {
         match self {
-            RunOption::Commits | RunOption::Moves => 1_000_000,
-            RunOption::Cells => 64_000_000,
+            RunLimit::Commits | RunLimit::Moves => 1_000_000,
+            RunLimit::Cells => 64_000_000,
         }
     }
 }

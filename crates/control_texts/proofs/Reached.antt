@@ -1,7 +1,7 @@
 -- Where a reading stands behind words that were taken.
 use Rattle.std.proofs.Common.{◌≡◌, ℕ, ◌+◌, ◌-◌, ◌<◌, ◌≤◌, Bool, true, false, List, [], ◌∷◌, ◌++◌, length, map, take, drop, Option, Some, None, ap, sym, ◌∙◌, subst, refl, arith, append_assoc}
 use Rattle.std.specs.List.{list_all}
-use Rattle.std.proofs.lemmas.List.{append-nil, length-drop}
+use Rattle.std.proofs.lemmas.List.{append-nil, length-drop, length-map}
 use Rattle.fcp_model.specs.declared.run.Control.{Control}
 use Rattle.fcp_model.specs.LawfulControls.{AreLawfulFrom, AreLawful}
 use Rattle.fcp_model.specs.Spelling.{Bytes}
@@ -218,6 +218,11 @@ pub whole-text : (text rest : Bytes) (r : Reading) (controls : List Control) →
     → IsControlText text controls
 whole-text text rest r controls h none e =
     subst (λ ps. AskFor (words_of ps) controls) (all-done text rest r controls h none) (at-end (words_of h.done) r controls h.stands e)
+
+-- a text asks for few controls
+pub few-controls : (text : Bytes) (controls : List Control) → IsControlText text controls → length controls ≤ 64
+few-controls text controls a =
+    subst (λ n. n ≤ 64) (sym (ap length a.controls_are ∙ length-map a.items control_of)) a.few
 
 pub end-fault : (text rest : Bytes) (r : Reading) (controls : List Control) → HasTaken text rest r controls
     → ((at : ℕ) → pieces_from at rest ≡ [])

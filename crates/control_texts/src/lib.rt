@@ -1,7 +1,7 @@
 //! Control texts: what is asked of a run beforehand, as `after N ACT` with `;` between two.
 #![tactic(auto)]
 
-ghost use Rattle.std.specs.Prelude.{◌<◌, length, IfOk};
+ghost use Rattle.std.specs.Prelude.{◌<◌, ◌≤◌, length, IfOk};
 ghost use Rattle.fcp_model.specs.LawfulControls.{AreLawful};
 ghost use Rattle.control_texts.specs.ControlTexts.{ReadsControls};
 ghost use Rattle.control_texts.specs.Laws.{ATextHasOneReading, ATextHasOneFault, NoTextIsReadWithAFault};
@@ -22,6 +22,7 @@ pub fn read_controls(alloc: Global, text: &str) -> Result<Seq<Control>, ControlF
     requires { length text.now < 4294967296 }
     ensures reads { ReadsControls text.now result }
     ensures lawful { IfOk result AreLawful }
+    ensures few { IfOk result (λ controls. length controls ≤ 64) }
 {
     let bytes = text.as_bytes();
     let mut controls = Seq::empty(alloc);

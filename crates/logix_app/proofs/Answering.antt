@@ -1,10 +1,12 @@
 -- What is answered to the words, what is written of that, and that what can be done is done.
-use Rattle.std.proofs.Common.{◌≡◌, ℕ, ◌<◌, ◌≤◌, List, [], length, Option, Some, Ok, Err, ap, sym, ◌∙◌, subst, arith}
+use Rattle.std.proofs.Common.{◌≡◌, ℕ, ◌<◌, ◌≤◌, List, [], length, Option, Some, None, Ok, Err, ap, sym, ◌∙◌, subst, arith}
 use Rattle.std.specs.Prelude.{Result, IfOk, IsSomeAnd}
+use Rattle.control_texts.proofs.OneFault.{read-or-fault}
 use Rattle.command_words.specs.declared.order.Order.{Order}
 use Rattle.command_words.specs.declared.order.Order.TheVariants.{Run, Show}
 use Rattle.command_words.specs.Readings.{file_of, IsReading}
 use Rattle.command_words.proofs.Answering.{one-reading}
+use Rattle.fcp_model.specs.declared.run.Control.{Control}
 use Rattle.fcp_model.specs.declared.run.Limits.{Limits}
 use Rattle.logix_edge.specs.declared.sink.Put.TheVariants as put
 use Rattle.logix_edge.specs.Causes.{Rose}
@@ -16,6 +18,7 @@ use Rattle.logix_app.specs.declared.answer.Answer.{Answer}
 use Rattle.logix_app.specs.declared.status.Status.{Status}
 use Rattle.logix_app.specs.declared.status.Status.TheVariants as status
 use Rattle.logix_app.specs.Answers.{AnswersOrder, CanRun, CanShow, CanDo, IsDoneOrNoMemory}
+use Rattle.logix_app.specs.Controls.{AreAsked, HasFaultAt}
 use Rattle.logix_app.specs.Headline.{Answers, WritesWhole, Writes, HasWork, IsFetched, IsAnswered, Completes}
 use Rattle.logix_app.specs.Parts.{text_of}
 use Rattle.logix_app.proofs.KindsOfAnswers.{RunAnswer, ShowAnswer, CallAnswer, run-answer, show-answer, any-answer}
@@ -26,23 +29,23 @@ use Rattle.logix_app.proofs.OneLoading.{no-fault, no-first-goal-fault}
 
 -- no order is answered with one of these statuses
 not-usage : (o : Order) (file text : Bytes) → AnswersOrder o file status.Usage text → ⊥
-not-usage (Run name goal limits) file text a = a
+not-usage (Run name goal limits control) file text a = a
 not-usage (Show name) file text a = a
 
 not-shelf : (o : Order) (file text : Bytes) → AnswersOrder o file status.Shelf text → ⊥
-not-shelf (Run name goal limits) file text a = a
+not-shelf (Run name goal limits control) file text a = a
 not-shelf (Show name) file text a = a
 
 not-too-long : (o : Order) (file text : Bytes) → AnswersOrder o file status.TooLong text → ⊥
-not-too-long (Run name goal limits) file text a = a
+not-too-long (Run name goal limits control) file text a = a
 not-too-long (Show name) file text a = a
 
 not-sink : (o : Order) (file text : Bytes) → AnswersOrder o file status.Sink text → ⊥
-not-sink (Run name goal limits) file text a = a
+not-sink (Run name goal limits control) file text a = a
 not-sink (Show name) file text a = a
 
 no-memory : (o : Order) (file text : Bytes) → AnswersOrder o file status.NoMemory text → text ≡ []
-no-memory (Run name goal limits) file text a = a
+no-memory (Run name goal limits control) file text a = a
 no-memory (Show name) file text a = a
 
 module _ (words : List Bytes) (held : Option Entries) (before now : ℕ) (last : Option Bytes) where
@@ -52,6 +55,7 @@ module _ (words : List Bytes) (held : Option Entries) (before now : ℕ) (last :
   as-answer status.Shown text a = a
   as-answer (status.Module f) text a = a
   as-answer (status.Goal f) text a = a
+  as-answer (status.Control at) text a = a
   as-answer status.NoMemory text a = no-memory a.order a.file text a.answers
   as-answer status.Usage text a = absurd (not-usage a.order a.file text a.answers)
   as-answer status.Shelf text a = absurd (not-shelf a.order a.file text a.answers)
@@ -85,6 +89,7 @@ module _ (words : List Bytes) (held : Option Entries) (before now : ℕ) (last o
   whole-text status.Usage text a w = w
   whole-text (status.Module f) text a w = w
   whole-text (status.Goal f) text a w = w
+  whole-text (status.Control at) text a w = w
   whole-text status.Shelf text a w = w
   whole-text status.TooLong text a w = w
   whole-text status.NoMemory text a w = w
@@ -96,14 +101,22 @@ module _ (words : List Bytes) (held : Option Entries) (before now : ℕ) (last o
 
 -- ---- what can be done is done
 
-run-is-done : (name goal file : Bytes) (limits : Limits) (s : Status) (text : Bytes) → CanRun file goal
-    → RunAnswer limits file goal s text
-    → IsDoneOrNoMemory (Run name goal limits) s
-run-is-done name goal file limits s text can (kinds.ran o e r) = subst (IsDoneOrNoMemory (Run name goal limits)) (sym e) tt
-run-is-done name goal file limits s text can (kinds.module_fault f e line first) =
-    absurd (no-fault file can.m can.loaded.before f can.loaded.loaded first)
-run-is-done name goal file limits s text can (kinds.goal_fault f e line first) =
-    absurd (no-first-goal-fault file goal can.m can.g can.names f can.loaded first)
+-- controls that are asked for by a text without a fault
+pub no-fault-asked : (control : Option Bytes) (controls : List Control) (at : ℕ) → AreAsked control controls → HasFaultAt control at → ⊥
+no-fault-asked None controls at a f = f
+no-fault-asked (Some text) controls at a f = read-or-fault text controls at a f
+
+run-is-done : (name goal file : Bytes) (limits : Limits) (control : Option Bytes) (s : Status) (text : Bytes) → CanRun control file goal
+    → RunAnswer limits control file goal s text
+    → IsDoneOrNoMemory (Run name goal limits control) s
+run-is-done name goal file limits control s text can (kinds.ran o e r) =
+    subst (IsDoneOrNoMemory (Run name goal limits control)) (sym e) tt
+run-is-done name goal file limits control s text can (kinds.module_fault f e line first) =
+    absurd (no-fault file can.load.m can.load.loaded.before f can.load.loaded.loaded first)
+run-is-done name goal file limits control s text can (kinds.goal_fault f e line first) =
+    absurd (no-first-goal-fault file goal can.load.m can.load.g can.load.names f can.load.loaded first)
+run-is-done name goal file limits control s text can (kinds.control_fault at e line fault) =
+    absurd (no-fault-asked control can.controls at can.asked fault.fault)
 
 show-is-done : (name file : Bytes) (s : Status) (text : Bytes) → CanShow file → ShowAnswer file s text → IsDoneOrNoMemory (Show name) s
 show-is-done name file s text can (kinds.shown e r) = subst (IsDoneOrNoMemory (Show name)) (sym e) tt
@@ -113,8 +126,8 @@ show-is-done name file s text can (kinds.module_fault f e line first) = absurd (
 order-is-done : (o : Order) (file : Bytes) (s : Status) (text : Bytes) → CanDo o file → AnswersOrder o file s text
     → (s ≡ status.NoMemory → ⊥)
     → IsDoneOrNoMemory o s
-order-is-done (Run name goal limits) file s text can a enough =
-    run-is-done name goal file limits s text can (run-answer limits file goal s text a enough)
+order-is-done (Run name goal limits control) file s text can a enough =
+    run-is-done name goal file limits control s text can (run-answer limits control file goal s text a enough)
 order-is-done (Show name) file s text can a enough = show-is-done name file s text can (show-answer file s text a enough)
 
 above-limit : (o : Option Bytes) (file : Bytes) → o ≡ Some file → IsSomeAnd o (λ bytes. 1048576 < length bytes) → 1048576 < length file
@@ -151,7 +164,7 @@ module _ (words : List Bytes) (entries : Entries) (before now : ℕ) (last : Opt
       order-is-done o file s text can (over-file s text r there a) enough
 
 no-memory-is-done : (o : Order) → IsDoneOrNoMemory o status.NoMemory
-no-memory-is-done (Run name goal limits) = tt
+no-memory-is-done (Run name goal limits control) = tt
 no-memory-is-done (Show name) = tt
 
 module _ (words : List Bytes) (held : Option Entries) (before now : ℕ) (last old new : Option Bytes) (counted count : ℕ) where
@@ -172,5 +185,6 @@ module _ (words : List Bytes) (held : Option Entries) (before now : ℕ) (last o
   completes status.Usage w o work p q = answered status.Usage (λ e. cc) o work p w
   completes (status.Module f) w o work p q = answered (status.Module f) (λ e. cc) o work p w
   completes (status.Goal f) w o work p q = answered (status.Goal f) (λ e. cc) o work p w
+  completes (status.Control at) w o work p q = answered (status.Control at) (λ e. cc) o work p w
   completes status.Shelf w o work p q = answered status.Shelf (λ e. cc) o work p w
   completes status.TooLong w o work p q = answered status.TooLong (λ e. cc) o work p w

@@ -5,7 +5,7 @@ use Rattle.std.proofs.lemmas.Bool.{and_parts, cases_Bool, leb-true}
 use Rattle.word_numbers.specs.Numbers.{number_of, is_number, digits_value}
 use Rattle.command_words.specs.declared.order.Order.{Order}
 use Rattle.command_words.specs.declared.order.Order.TheVariants.{Run, Show}
-use Rattle.command_words.specs.Readings.{Gives, IsReading}
+use Rattle.command_words.specs.Readings.{GivesNumber, IsReading}
 use Rattle.fcp_model.specs.Spelling.{Bytes}
 use Rattle.logix_app.specs.Parts.{AsksWithin}
 
@@ -24,14 +24,14 @@ number-within most_digits most n v e = go (cases_Bool (is_number most_digits mos
         cc
 
 -- so is the number that an option's values give, where the default is
-gives-within : (default most n : ℕ) (vs : List Bytes) → default ≤ most → Gives default most vs n → n ≤ most
+gives-within : (default most n : ℕ) (vs : List Bytes) → default ≤ most → GivesNumber default most vs n → n ≤ most
 gives-within default most n [] d g = subst (λ k. k ≤ most) (sym g) d
 gives-within default most n (v ∷ []) d g = number-within 8 most n v g
 gives-within default most n (v ∷ w ∷ vs) d g = absurd g
 
 -- an order that words ask for
 pub asked : (words : List Bytes) (o : Order) → IsReading words o → AsksWithin o
-asked words (Run file goal limits) r = record {
+asked words (Run file goal limits control) r = record {
   commits = gives-within 1000000 1000000 limits.commits _ (omega arith) r.asks.are_parts.commits;
   moves = gives-within 1000000 1000000 limits.moves _ (omega arith) r.asks.are_parts.moves;
   cells = gives-within 8000000 64000000 limits.cells _ (omega arith) r.asks.are_parts.cells;

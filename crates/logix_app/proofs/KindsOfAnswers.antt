@@ -9,27 +9,34 @@ use Rattle.logix_app.specs.declared.status.Status.{Status}
 use Rattle.logix_app.specs.declared.status.Status.TheVariants as status
 use Rattle.logix_app.specs.Answers.{AnswersRun, AnswersShow, IsRunOf, IsShownAs}
 use Rattle.logix_app.specs.Headline.{Answers, IsUsage, IsShelfFault, IsTooLong, IsAnswered}
-use Rattle.logix_app.specs.Lines.{module_line, goal_line}
+use Rattle.logix_app.specs.Controls.{IsControlFault}
+use Rattle.logix_app.specs.Lines.{module_line, goal_line, control_line}
 use Rattle.logix_app.specs.Loading.{IsFirstFault, IsFirstGoalFault}
 
 -- a goal that is to be run
-pub data RunAnswer (limits : Limits) (file goal : Bytes) (s : Status) (text : Bytes) : Type 0 where
-  ran : (o : Outcome) → s ≡ status.Ended o → IsRunOf limits file goal o text → RunAnswer limits file goal s text
-  module_fault : (f : Fault) → s ≡ status.Module f → text ≡ module_line f → IsFirstFault file f → RunAnswer limits file goal s text
-  goal_fault : (f : Fault) → s ≡ status.Goal f → text ≡ goal_line f → IsFirstGoalFault file goal f → RunAnswer limits file goal s text
+pub data RunAnswer (limits : Limits) (control : Option Bytes) (file goal : Bytes) (s : Status) (text : Bytes) : Type 0 where
+  ran : (o : Outcome) → s ≡ status.Ended o → IsRunOf limits control file goal o text → RunAnswer limits control file goal s text
+  module_fault : (f : Fault) → s ≡ status.Module f → text ≡ module_line f → IsFirstFault file f
+      → RunAnswer limits control file goal s text
+  goal_fault : (f : Fault) → s ≡ status.Goal f → text ≡ goal_line f → IsFirstGoalFault file goal f
+      → RunAnswer limits control file goal s text
+  control_fault : (at : ℕ) → s ≡ status.Control at → text ≡ control_line at → IsControlFault control file goal at
+      → RunAnswer limits control file goal s text
 
-pub run-answer : (limits : Limits) (file goal : Bytes) (s : Status) (text : Bytes) → AnswersRun limits file goal s text
+pub run-answer : (limits : Limits) (control : Option Bytes) (file goal : Bytes) (s : Status) (text : Bytes)
+    → AnswersRun limits control file goal s text
     → (s ≡ status.NoMemory → ⊥)
-    → RunAnswer limits file goal s text
-run-answer limits file goal (status.Ended o) text a enough = ran o refl a
-run-answer limits file goal (status.Module f) text a enough = module_fault f refl a.0 a.1
-run-answer limits file goal (status.Goal f) text a enough = goal_fault f refl a.0 a.1
-run-answer limits file goal status.NoMemory text a enough = absurd (enough refl)
-run-answer limits file goal status.Shown text a enough = absurd a
-run-answer limits file goal status.Usage text a enough = absurd a
-run-answer limits file goal status.Shelf text a enough = absurd a
-run-answer limits file goal status.TooLong text a enough = absurd a
-run-answer limits file goal status.Sink text a enough = absurd a
+    → RunAnswer limits control file goal s text
+run-answer limits control file goal (status.Ended o) text a enough = ran o refl a
+run-answer limits control file goal (status.Module f) text a enough = module_fault f refl a.0 a.1
+run-answer limits control file goal (status.Goal f) text a enough = goal_fault f refl a.0 a.1
+run-answer limits control file goal (status.Control at) text a enough = control_fault at refl a.0 a.1
+run-answer limits control file goal status.NoMemory text a enough = absurd (enough refl)
+run-answer limits control file goal status.Shown text a enough = absurd a
+run-answer limits control file goal status.Usage text a enough = absurd a
+run-answer limits control file goal status.Shelf text a enough = absurd a
+run-answer limits control file goal status.TooLong text a enough = absurd a
+run-answer limits control file goal status.Sink text a enough = absurd a
 
 -- a file that is to be shown
 pub data ShowAnswer (file : Bytes) (s : Status) (text : Bytes) : Type 0 where
@@ -42,6 +49,7 @@ show-answer file (status.Module f) text a enough = module_fault f refl a.0 a.1
 show-answer file status.NoMemory text a enough = absurd (enough refl)
 show-answer file (status.Ended o) text a enough = absurd a
 show-answer file (status.Goal f) text a enough = absurd a
+show-answer file (status.Control at) text a enough = absurd a
 show-answer file status.Usage text a enough = absurd a
 show-answer file status.Shelf text a enough = absurd a
 show-answer file status.TooLong text a enough = absurd a
@@ -66,3 +74,4 @@ any-answer words held before now last (status.Ended o) text a enough = answered 
 any-answer words held before now last status.Shown text a enough = answered a
 any-answer words held before now last (status.Module f) text a enough = answered a
 any-answer words held before now last (status.Goal f) text a enough = answered a
+any-answer words held before now last (status.Control at) text a enough = answered a

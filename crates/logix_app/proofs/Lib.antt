@@ -4,3 +4,4 @@ pub mod KindsOfAnswers
 pub mod Loaded
 pub mod OneLoading
 pub mod Pieces
+pub mod Reported

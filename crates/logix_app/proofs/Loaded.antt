@@ -1,5 +1,5 @@
 -- What the texts of a module and a goal are, and what is answered to them.
-use Rattle.std.proofs.Common.{◌≡◌, ◌≤◌, ℕ, List, [], length, ap, sym, ◌∙◌, subst, refl, arith, Ok, Err}
+use Rattle.std.proofs.Common.{◌≡◌, ◌≤◌, ℕ, List, length, ap, sym, ◌∙◌, subst, refl, arith, Option, Ok, Err}
 use Rattle.std.specs.Prelude.{Result, IfOk}
 use Rattle.fcp_model.specs.declared.memory.NoMemory.{NoMemory}
 use Rattle.fcp_model.specs.declared.fault.Refused.{Refused}
@@ -7,23 +7,17 @@ use Rattle.fcp_model.specs.declared.fault.Refused.TheVariants as refused
 use Rattle.fcp_model.specs.declared.source.Module.{Module}
 use Rattle.fcp_model.specs.declared.source.GoalText.{GoalText}
 use Rattle.fcp_model.specs.declared.run.Limits.{Limits}
-use Rattle.fcp_model.specs.declared.run.Outcome.{Outcome}
-use Rattle.fcp_model.specs.ReportText.{goal_variables}
-use Rattle.fcp_model.specs.Reports.{IsOneWorkerReport}
-use Rattle.fcp_model.specs.Translation.{program_of, start_of, started_goals}
 use Rattle.fcp_text.specs.SourceClauses.{module_text}
 use Rattle.fcp_model.specs.NameList.{reserved_names}
 use Rattle.fcp_model.specs.Spelling.{Bytes}
 use Rattle.fcp_loader.specs.Faults.{faults_of, goal_faults_of}
 use Rattle.fcp_loader.specs.Loading.{Loads, LoadsGoal}
 use Rattle.fcp_reader.specs.Sources.{IsModule, IsGoal, ReadsModule, ReadsGoal}
-use Rattle.fcp_laws.proofs.LawfulReports.{is_run_report}
-use Rattle.fcp_laws.proofs.SoundSchedules.{start_ordered}
 use Rattle.goal_layout.specs.Goals.{MayBeLaid}
 use Rattle.layable_goals.specs.Laws.{AGoalOfATextMayBeLaid}
 use Rattle.reading_laws.proofs.ReadAgain.{canonical_texts}
 use Rattle.logix_app.specs.declared.answer.Answer.{Answer}
-use Rattle.logix_app.specs.Answers.{IsRunOf, IsShownAs, AnswersRun, AnswersShow}
+use Rattle.logix_app.specs.Answers.{IsShownAs, AnswersRun, AnswersShow}
 use Rattle.logix_app.specs.Loading.{IsLoadedModule, in_module, AreLoaded}
 use Rattle.logix_app.specs.Loading as loading
 use Rattle.logix_app.specs.Parts.{text_of, IsOfSomeText, LoadsText, IsLoadedGoal, LoadsGoalText, TellsModule, TellsGoal}
@@ -69,20 +63,6 @@ pub both-loaded : (file goal : Bytes) (m : Module) (before : List Bytes) (g : Go
 both-loaded file goal m before g names l t =
     record { before = before; loaded = l; is_goal = t.is_goal; faultless = t.faultless; strings = t.strings }
 
--- the engine's report is the answer
-pub ran : (limits : Limits) (file goal : Bytes) (m : Module) (g : GoalText) (names : List Bytes) (o : Outcome) (text : Bytes)
-    → AreLoaded file goal m g names
-    → IsOneWorkerReport (program_of m) (start_of m g) limits [] names (goal_variables g.names) o text → IsRunOf limits file goal o text
-ran limits file goal m g names o text l r = record {
-  m = m;
-  g = g;
-  names = names;
-  loaded = l;
-  is_run = is_run_report (program_of m) (start_of m g) limits [] names (goal_variables g.names) o text
-      (start_ordered (length g.names) (started_goals m g)) refl tt r;
-  by_one_worker = r;
-}
-
 -- the canonical text is the answer
 pub shown : (file : Bytes) (m : Module) (names : List Bytes) → IsLoadedModule file m names → IsShownAs file (module_text names m)
 shown file m names l = record {
@@ -108,13 +88,14 @@ laid-goal m before goal after g (Ok l) law of read load =
 laid-goal m before goal after g (Err e) law of read load = tt
 
 -- the answers where a module or a goal was refused
-pub refused-run : (limits : Limits) (file goal : Bytes) (names : List Bytes) (r : Refused) (a : Result Answer NoMemory)
+pub refused-run : (limits : Limits) (control : Option Bytes) (file goal : Bytes) (names : List Bytes) (r : Refused)
+    (a : Result Answer NoMemory)
     → LoadsText file names (Err r)
-    → IfOk a (TellsModule r) → IfOk a (λ x. AnswersRun limits file goal x.status (text_of x.output))
-refused-run limits file goal names (refused.Fault f) (Ok a) l t =
-    subst (λ s. AnswersRun limits file goal s (text_of a.output)) (sym t.0) (t.1, l)
-refused-run limits file goal names (refused.NoMemory n) (Ok a) l t = absurd t
-refused-run limits file goal names r (Err e) l t = tt
+    → IfOk a (TellsModule r) → IfOk a (λ x. AnswersRun limits control file goal x.status (text_of x.output))
+refused-run limits control file goal names (refused.Fault f) (Ok a) l t =
+    subst (λ s. AnswersRun limits control file goal s (text_of a.output)) (sym t.0) (t.1, l)
+refused-run limits control file goal names (refused.NoMemory n) (Ok a) l t = absurd t
+refused-run limits control file goal names r (Err e) l t = tt
 
 pub refused-show : (file : Bytes) (names : List Bytes) (r : Refused) (a : Result Answer NoMemory) → LoadsText file names (Err r)
     → IfOk a (TellsModule r) → IfOk a (λ x. AnswersShow file x.status (text_of x.output))
@@ -122,12 +103,12 @@ refused-show file names (refused.Fault f) (Ok a) l t = subst (λ s. AnswersShow 
 refused-show file names (refused.NoMemory n) (Ok a) l t = absurd t
 refused-show file names r (Err e) l t = tt
 
-pub refused-goal : (limits : Limits) (file goal : Bytes) (m : Module) (before names : List Bytes) (r : Refused)
+pub refused-goal : (limits : Limits) (control : Option Bytes) (file goal : Bytes) (m : Module) (before names : List Bytes) (r : Refused)
     (a : Result Answer NoMemory)
     → IsLoadedModule file m before → LoadsGoalText m before goal names (Err r) → IfOk a (TellsGoal r)
-    → IfOk a (λ x. AnswersRun limits file goal x.status (text_of x.output))
-refused-goal limits file goal m before names (refused.Fault f) (Ok a) l first t =
-    subst (λ s. AnswersRun limits file goal s (text_of a.output)) (sym t.0)
+    → IfOk a (λ x. AnswersRun limits control file goal x.status (text_of x.output))
+refused-goal limits control file goal m before names (refused.Fault f) (Ok a) l first t =
+    subst (λ s. AnswersRun limits control file goal s (text_of a.output)) (sym t.0)
     (t.1, record { m = m; before = before; loaded = l; first = first })
-refused-goal limits file goal m before names (refused.NoMemory n) (Ok a) l first t = absurd t
-refused-goal limits file goal m before names r (Err e) l first t = tt
+refused-goal limits control file goal m before names (refused.NoMemory n) (Ok a) l first t = absurd t
+refused-goal limits control file goal m before names r (Err e) l first t = tt

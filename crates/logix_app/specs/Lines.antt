@@ -1,5 +1,5 @@
 -- The lines that are printed in place of a text.
-use Rattle.std.specs.Prelude.{◌++◌, codes, decimal}
+use Rattle.std.specs.Prelude.{ℕ, ◌++◌, codes, decimal}
 use Rattle.fcp_model.specs.declared.fault.Fault.{Fault}
 use Rattle.fcp_model.specs.Codes.{code_number}
 use Rattle.fcp_model.specs.Spelling.{Bytes}
@@ -27,3 +27,7 @@ module_line f = fault_line (codes "module") f
 -- of a goal
 abbrev pub goal_line : Fault → Bytes
 goal_line f = fault_line (codes "goal") f
+
+-- the place in bytes of the fault of a control text
+abbrev pub control_line : ℕ → Bytes
+control_line at = codes "logix: control fault at " ++ decimal at ++ codes "\n"

@@ -29,6 +29,13 @@ pub record AreLoaded (file goal : Bytes) (m : Module) (g : GoalText) (names : Li
   pub faultless : goal_faults_of m g ≡ []
   pub strings : names ≡ names_behind_goal before goal
 
+-- neither the file nor the goal has a fault
+pub record BothLoad (file goal : Bytes) : Type 0 where
+  pub m : Module
+  pub g : GoalText
+  pub names : List Bytes
+  pub loaded : AreLoaded file goal m g names
+
 -- the first fault of a goal's text for a module, whose strings are numbered before the goal's
 pub data IsFirstGoalFaultFor (m : Module) (before : List Bytes) (goal : Bytes) (f : Fault) : Type 0 where
   in_text : IsGoalFault before goal f → IsFirstGoalFaultFor m before goal f

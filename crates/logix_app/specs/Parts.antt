@@ -1,12 +1,16 @@
 -- What the parts of a call do. Only private clauses cite these.
-use Rattle.std.specs.Prelude.{◌≡◌, ℕ, ◌≤◌, List, [], length, Result, Ok, Err}
+use Rattle.std.specs.Prelude.{◌≡◌, ℕ, ◌≤◌, List, [], length, Option, Result, Ok, Err}
 use Rattle.command_words.specs.declared.order.Order.{Order}
 use Rattle.command_words.specs.declared.order.Order.TheVariants.{Run, Show}
+use Rattle.control_texts.specs.declared.fault.ControlFault.{ControlFault}
+use Rattle.control_texts.specs.declared.fault.ControlFault.TheVariants as control_fault
 use Rattle.fcp_model.specs.declared.fault.Refused.{Refused}
 use Rattle.fcp_model.specs.declared.fault.Refused.TheVariants as refused
+use Rattle.fcp_model.specs.declared.run.Control.{Control}
 use Rattle.fcp_model.specs.declared.run.Limits.{Limits}
 use Rattle.fcp_model.specs.declared.source.Module.{Module}
 use Rattle.fcp_model.specs.declared.source.GoalText.{GoalText}
+use Rattle.fcp_model.specs.LawfulControls.{AreLawful}
 use Rattle.fcp_model.specs.Spelling.{Bytes}
 use Rattle.fcp_text.specs.SourceClauses.{module_text}
 use Rattle.fcp_loader.specs.Faults.{goal_faults_of}
@@ -15,7 +19,8 @@ use Rattle.logix_app.specs.declared.answer.Answer.{Answer}
 use Rattle.logix_app.specs.declared.answer.Output.{Output}
 use Rattle.logix_app.specs.declared.answer.Output.TheVariants as output
 use Rattle.logix_app.specs.declared.status.Status.TheVariants as status
-use Rattle.logix_app.specs.Lines.{module_line, goal_line}
+use Rattle.logix_app.specs.Controls.{AreAsked, HasFaultAt}
+use Rattle.logix_app.specs.Lines.{module_line, goal_line, control_line}
 use Rattle.logix_app.specs.Loading.{IsLoadedModule, IsFirstFault, IsFirstGoalFaultFor}
 
 -- what an output prints
@@ -32,7 +37,7 @@ pub record MayBeAsked (limits : Limits) : Type 0 where
 
 -- the limits of an order may be asked for
 abbrev pub AsksWithin : Order → Type 0
-AsksWithin (Run name goal limits) = MayBeAsked limits
+AsksWithin (Run name goal limits control) = MayBeAsked limits
 AsksWithin (Show name) = Unit {0}
 
 -- the module was loaded from some text of at most 1,048,576 bytes, with its strings after it
@@ -59,6 +64,17 @@ LoadsGoalText m before goal names (Ok g) = IsLoadedGoal m before goal g.0 names
 LoadsGoalText m before goal names (Err (refused.Fault f)) = IsFirstGoalFaultFor m before goal f
 LoadsGoalText m before goal names (Err (refused.NoMemory n)) = Unit {0}
 
+-- a run can keep the controls, and they are few
+pub record MayBeKept (controls : List Control) : Type 0 where
+  pub lawful : AreLawful controls
+  pub few : length controls ≤ 64
+
+-- the controls that a control text asks for, or why there are none
+abbrev pub ReadsAsked : Option Bytes → Result (List Control) ControlFault → Type 0
+ReadsAsked control (Ok controls) = AreAsked control controls
+ReadsAsked control (Err (control_fault.Unread at)) = HasFaultAt control at
+ReadsAsked control (Err control_fault.NoMemory) = Unit {0}
+
 -- the answer where a module was refused for a fault
 abbrev pub TellsModule : Refused → Answer → Type 0
 TellsModule (refused.Fault f) a = (a.status ≡ status.Module f) × (text_of a.output ≡ module_line f)
@@ -68,3 +84,8 @@ TellsModule (refused.NoMemory n) a = ⊥
 abbrev pub TellsGoal : Refused → Answer → Type 0
 TellsGoal (refused.Fault f) a = (a.status ≡ status.Goal f) × (text_of a.output ≡ goal_line f)
 TellsGoal (refused.NoMemory n) a = ⊥
+
+-- the answer where a control text was refused for a fault
+abbrev pub TellsControl : ControlFault → Answer → Type 0
+TellsControl (control_fault.Unread at) a = (a.status ≡ status.Control at) × (text_of a.output ≡ control_line at)
+TellsControl control_fault.NoMemory a = ⊥

@@ -3,7 +3,7 @@ use Rattle.std.specs.Prelude.{ℕ}
 use Rattle.fcp_model.specs.declared.run.Outcome.{Outcome}
 use Rattle.fcp_model.specs.declared.run.Outcome.TheVariants as outcome
 use Rattle.logix_app.specs.declared.status.Status.{Status}
-use Rattle.logix_app.specs.declared.status.Status.TheVariants.{Ended, Shown, Usage, Module, Goal, Shelf, TooLong, Sink, NoMemory}
+use Rattle.logix_app.specs.declared.status.Status.TheVariants.{Ended, Shown, Usage, Module, Goal, Control, Shelf, TooLong, Sink, NoMemory}
 
 -- of a run that ended
 abbrev pub outcome_number : Outcome → ℕ
@@ -22,6 +22,7 @@ status_number Shown = 0
 status_number Usage = 2
 status_number (Module f) = 3
 status_number (Goal f) = 4
+status_number (Control at) = 5
 status_number Shelf = 6
 status_number TooLong = 7
 status_number Sink = 13

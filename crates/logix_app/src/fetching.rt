@@ -62,7 +62,8 @@ fn answer_over(alloc: Global, order: &Order, file: &[u8]) -> Result<Answer, NoMe
             file: _,
             goal,
             limits,
-        } => answer_run(alloc, file, goal.as_str().as_bytes(), *limits),
+            control,
+        } => answer_run(alloc, file, goal.as_str().as_bytes(), *limits, control),
         Order::Show { file: _ } => answer_show(alloc, file),
     }
 }

@@ -9,6 +9,7 @@ mod answer;
 mod fetching;
 mod lines;
 mod loading;
+mod running;
 mod status;
 mod writing;
 
@@ -17,9 +18,9 @@ use logix_edge::{Put, Shelf, Sink};
 pub use status::Status;
 use std::alloc::Global;
 
-/// Does what the words ask for. `run FILE GOAL` runs the goal over the module of the file, with one worker and within the
-/// limits of its options, and puts the report to the sink; `show FILE` puts the module's canonical text. Any other answer but
-/// that memory ran out is a line of its own.
+/// Does what the words ask for. `run FILE GOAL` runs the goal over the module of the file, with one worker, within the limits and
+/// with the controls of its options, and puts the report to the sink; `show FILE` puts the module's canonical text. Any other answer
+/// but that memory ran out is a line of its own.
 pub fn run_alone<S: Shelf, K: Sink>(
     alloc: Global,
     words: &[String],

@@ -1,20 +1,20 @@
 //! The answers to the texts of a module and a goal.
-ghost use Rattle.std.specs.Prelude.{◌≡◌, ◌≤◌, length, IfOk};
+ghost use Rattle.std.specs.Prelude.{◌≡◌, ◌≤◌, length, IfOk, IfSome};
 ghost use Rattle.fcp_model.specs.NameList.{reserved_names};
 ghost use Rattle.fcp_model.specs.Spelling.{Bytes};
 ghost use Rattle.goal_layout.specs.Goals.{MayBeLaid};
 ghost use Rattle.logix_app.specs.Answers.{AnswersRun, AnswersShow};
-ghost use Rattle.logix_app.specs.Loading.{IsLoadedModule, AreLoaded};
+ghost use Rattle.logix_app.specs.Loading.{IsLoadedModule};
 ghost use Rattle.logix_app.specs.Parts.{text_of, IsOfSomeText, LoadsText, LoadsGoalText, MayBeAsked};
 
 use crate::Status;
 use crate::answer::{Answer, Output};
 use crate::lines::{goal_refusal, module_refusal};
+use crate::running::answer_loaded;
 use fcp_loader::{load, load_goal};
-use fcp_model::{Limits, Loaded, LoadedGoal, Names, NoMemory, Refused};
+use fcp_model::{Limits, Loaded, LoadedGoal, Names, NoMemory, Refused, Text};
 use fcp_reader::{read_goal, read_module};
 use std::alloc::Global;
-use worker_crew::{Report, run_goal};
 
 /// The module of a text, or its first fault. The strings before are the reserved ones.
 fn load_text(alloc: Global, file: &[u8], names: &mut Names) -> Result<Loaded, Refused>
@@ -47,26 +47,6 @@ fn load_goal_text(
     }
 }
 
-/// The answer to a goal that was loaded for a module, and that may be laid.
-fn answer_loaded(
-    alloc: Global,
-    names: &Names,
-    loaded: &Loaded,
-    goal: &LoadedGoal,
-    limits: Limits,
-) -> Result<Answer, NoMemory>
-    requires laid { MayBeLaid loaded.now goal.now }
-    requires asked { MayBeAsked limits }
-    ensures { (file text : Bytes) → AreLoaded file text loaded.now goal.now.0 names.now
-        → IfOk result (λ a. AnswersRun limits file text a.status (text_of a.output)) }
-{
-    let Report { outcome, text } = run_goal(alloc, names, loaded, goal, limits)?;
-    Ok(Answer {
-        status: Status::Ended(outcome),
-        output: Output::Text(text),
-    })
-}
-
 /// The answer to the text of a goal for a module that was loaded from some text.
 fn answer_goal(
     alloc: Global,
@@ -74,16 +54,18 @@ fn answer_goal(
     loaded: &Loaded,
     goal: &[u8],
     limits: Limits,
+    control: &Option<Text>,
 ) -> Result<Answer, NoMemory>
     requires short { length goal.now ≤ 1048576 }
     requires of_text { IsOfSomeText loaded.now names }
     requires asked { MayBeAsked limits }
+    requires control { IfSome control.now (λ text. length text ≤ 65536) }
     ensures { (file : Bytes) → IsLoadedModule file loaded.now names
-        → IfOk result (λ a. AnswersRun limits file goal.now a.status (text_of a.output)) }
+        → IfOk result (λ a. AnswersRun limits control.now file goal.now a.status (text_of a.output)) }
 {
     let mut names = names;
     match load_goal_text(alloc, loaded, goal, &mut names) {
-        Ok(goal) => answer_loaded(alloc, &names, loaded, &goal, limits),
+        Ok(goal) => answer_loaded(alloc, &names, loaded, &goal, limits, control),
         Err(refused) => goal_refusal(alloc, refused),
     }
 }
@@ -94,15 +76,17 @@ pub fn answer_run(
     file: &[u8],
     goal: &[u8],
     limits: Limits,
+    control: &Option<Text>,
 ) -> Result<Answer, NoMemory>
     requires file { length file.now ≤ 1048576 }
     requires goal { length goal.now ≤ 1048576 }
     requires asked { MayBeAsked limits }
-    ensures { IfOk result (λ a. AnswersRun limits file.now goal.now a.status (text_of a.output)) }
+    requires control { IfSome control.now (λ text. length text ≤ 65536) }
+    ensures { IfOk result (λ a. AnswersRun limits control.now file.now goal.now a.status (text_of a.output)) }
 {
     let mut names = Names::for_text(alloc, file)?;
     match load_text(alloc, file, &mut names) {
-        Ok(loaded) => answer_goal(alloc, names, &loaded, goal, limits),
+        Ok(loaded) => answer_goal(alloc, names, &loaded, goal, limits, control),
         Err(refused) => module_refusal(alloc, refused),
     }
 }

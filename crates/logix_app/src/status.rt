@@ -16,6 +16,8 @@ pub enum Status {
     Module(Fault),
     /// The module has none, and the goal has a fault, this one first.
     Goal(Fault),
+    /// Both have none, and the control text has its fault at this place, in bytes from 0.
+    Control { at: u32 },
     /// The shelf counted a fault.
     Shelf,
     /// The file has more bytes than the limit.
@@ -37,6 +39,7 @@ impl Status {
             Status::Usage => 2,
             Status::Module(_) => 3,
             Status::Goal(_) => 4,
+            Status::Control { .. } => 5,
             Status::Shelf => 6,
             Status::TooLong => 7,
             Status::Sink => 13,

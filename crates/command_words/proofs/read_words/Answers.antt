@@ -1,7 +1,8 @@
 use Rattle.std.proofs.Common.{map, sym, ◌∙◌}
 use Rattle.std.specs.String.{string_bytes}
 use Rattle.std.proofs.lemmas.Result.{err_from_is_err_and}
-use Rattle.command_words.proofs.Answering.{answered, mapped-allowed, not-allowed, read-proper, refused}
+use Rattle.command_words.proofs.Answering.{answered, mapped-allowed, not-allowed, refused}
+use Rattle.command_words.proofs.ProperWords.{read-proper}
 use Rattle.command_words.proofs.read_words.Goals as goal
 
 pub returns-then-not-are_allowed-clause-reads : goal.returns-then-not-are_allowed-clause-reads

@@ -1,6 +1,6 @@
 use Rattle.std.proofs.Common.{ap, sym, ◌∙◌, subst, length}
 use Rattle.control_texts.specs.ControlTexts.{IsFaultAt}
-use Rattle.control_texts.proofs.Reached.{text-begins, word-refused, word-accepted, whole-text, end-fault}
+use Rattle.control_texts.proofs.Reached.{text-begins, word-refused, word-accepted, whole-text, few-controls, end-fault}
 use Rattle.control_texts.proofs.read_controls.Goals as goal
 
 pub loop-start-init : goal.loop-start-init
@@ -31,6 +31,13 @@ returns-then-is_whole-clause-lawful c =
     (whole-text c.args.text.now c.loop-start.rest.now c.loop-start.reading c.loop-start.controls
     c.loop-start.invariant c.in_default.ensures
     (sym c.is_whole.ensures ∙ c.if-is_whole.true)).lawful
+
+pub returns-then-is_whole-clause-few : goal.returns-then-is_whole-clause-few
+returns-then-is_whole-clause-few c =
+    few-controls c.args.text.now c.loop-start.controls
+    (whole-text c.args.text.now c.loop-start.rest.now c.loop-start.reading c.loop-start.controls
+    c.loop-start.invariant c.in_default.ensures
+    (sym c.is_whole.ensures ∙ c.if-is_whole.true))
 
 pub returns-else-is_whole-clause-reads : goal.returns-else-is_whole-clause-reads
 returns-else-is_whole-clause-reads c =

@@ -8,4 +8,5 @@ returns-clause-shape c =
     let goal = c.in_ok-arg-2.ensures.shape (search rules) ∙ ap₂ with_rule file c.new-3.ensures.rule in
     let commits = c.in_ok-arg-3.ensures.shape c.option.ensures.local ∙ ap₂ with_rule goal c.option.ensures.rule in
     let moves = c.in_ok-arg-4.ensures.shape c.option-2.ensures.local ∙ ap₂ with_rule commits c.option-2.ensures.rule in
-    c.in_ok-command.ensures.shape c.option-3.ensures.local ∙ ap₂ with_rule moves c.option-3.ensures.rule
+    let cells = c.in_ok-arg-5.ensures.shape c.option-3.ensures.local ∙ ap₂ with_rule moves c.option-3.ensures.rule in
+    c.in_ok-command.ensures.shape c.option-4.ensures.local ∙ ap₂ with_rule cells c.option-4.ensures.rule

@@ -8,6 +8,6 @@ returns-in-Ok c file l =
 
 pub returns : goal.returns
 returns c file l =
-    refused-goal c.args.limits
+    refused-goal c.args.limits c.args.control.now
     file c.args.goal.now c.args.loaded.now c.args.names c.load_goal_text.new.names c.in-Err.refused c.goal_refusal.result
     l c.in-Err.ensures.loads c.goal_refusal.ensures

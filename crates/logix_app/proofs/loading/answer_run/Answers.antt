@@ -7,6 +7,6 @@ answer_goal-requires-clause-of_text c =
 
 pub returns-in-Err : goal.returns-in-Err
 returns-in-Err c =
-    refused-run c.args.limits
+    refused-run c.args.limits c.args.control.now
     c.args.file.now c.args.goal.now c.load_text.new.names c.in-Err.refused c.module_refusal.result c.in-Err.ensures.loads
     c.module_refusal.ensures
