@@ -11,7 +11,7 @@ use Rattle.leading_laws.proofs.Decisions.{goals_decide_alike}
 use Rattle.process_texts.specs.Lines.{AreWaits, WaitsAreTold}
 
 -- what is so of each process is so of one that has its words somewhere
-each_stands : (P : Process → Type 0) (as' : List ℕ) (ys : List Process) (p : ℕ) (x : Process) → Each P ys → StandsAt as' ys p x → P x
+pub each_stands : (P : Process → Type 0) (as' : List ℕ) (ys : List Process) (p : ℕ) (x : Process) → Each P ys → StandsAt as' ys p x → P x
 each_stands P [] ys p x h at = absurd at
 each_stands P (a ∷ as') [] p x h at = absurd at
 each_stands P (a ∷ as') (y ∷ ys) p x h (inl e) = subst P e.1 h.0
