@@ -16,7 +16,7 @@ use crate::waits::all_places;
 use fcp_model::{Loaded, Names, NoMemory};
 use machine_code::Code;
 use process_texts::{ProcessLists, push_process_lines};
-use ready_lists::live_processes;
+use ready_lists::{live_processes, live_states};
 use std::alloc::Global;
 
 impl Replay {
@@ -41,6 +41,7 @@ impl Replay {
         ensures shows { (ev : Event) → Shows ev self.old → Shows ev self.new }
         ensures room { room_of self.new ≡ room_of self.old }
     {
+        live_states();
         let processes = live_processes(alloc, self.hall.words())?;
         let waits = all_places(
             alloc,
