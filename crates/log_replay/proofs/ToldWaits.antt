@@ -1,15 +1,14 @@
 -- What a trial tells of the places on which a process waits.
-use Rattle.std.proofs.Common.{◌≡◌, ℕ, zero, suc, ◌+◌, ◌-◌, ◌*◌, ◌/◌, ◌%◌, ◌<◌, ◌≤◌, Bool, true, false, List, [], ◌∷◌, length, Option, Some, refl}
+use Rattle.std.proofs.Common.{◌≡◌, ℕ, zero, suc, ◌-◌, ◌*◌, ◌/◌, ◌%◌, ◌<◌, true, false, List, [], length, Option, Some, refl}
 use Rattle.std.proofs.Common.{sym, ap, ◌∙◌, subst, ⊎_elim, true≢false, arith}
 use Rattle.std.specs.Option.{option_and_then}
 use Rattle.std.proofs.lemmas.Option.{same_Some}
-use Rattle.fcp_model.specs.declared.run.Place.{Place}
 use Rattle.fcp_model.specs.Places.{Variable, own}
 use Rattle.fcp_model.specs.Terms.{Bindings}
 use Rattle.fcp_model.specs.Programs.{Program}
 use Rattle.fcp_model.specs.Decisions.{Decision, commits, decides_fail, waits_on, Decides}
 use Rattle.fcp_model.specs.States.{Status, ready, waiting, finished, Process, State}
-use Rattle.fcp_model.specs.LawfulStates.{WaitsOn, StandsRight, IsLawfulState}
+use Rattle.fcp_model.specs.LawfulStates.{StandsRight, IsLawfulState}
 use Rattle.fcp_model.proofs.OneDecision.{one_decision}
 use Rattle.heap_words.specs.Cells.{decoded}
 use Rattle.heap_words.specs.Heaps.{IsHeap, is_inside, inside_at, top_said, top_at}
@@ -18,12 +17,12 @@ use Rattle.heap_words.specs.Trails.{WordList, word_at}
 use Rattle.heap_words.specs.declared.cell.Cell.TheVariants.{Unbound}
 use Rattle.heap_words.proofs.QuietHeaps.{below_top}
 use Rattle.goal_layout.proofs.Insides.{first_inside, inside_cases, inside_word}
-use Rattle.word_states.specs.Words.{At, IsIn, HasAll}
+use Rattle.word_states.specs.Words.{At, IsIn}
 use Rattle.word_states.specs.Standing.{Book, StandsFor, StatusSays, ProcessAt}
 use Rattle.word_states.specs.Leading.{GoalStands}
 use Rattle.word_states.specs.Trials.{IsTried}
 use Rattle.word_states.proofs.Leading.{open_short}
-use Rattle.word_states.proofs.Lists.{word_among, apart_word}
+use Rattle.word_states.proofs.Lists.{apart_word}
 use Rattle.word_state_laws.proofs.Forming.{heap_low, heap_old}
 use Rattle.leading_laws.specs.Laws.{AlikeDecision}
 use Rattle.leading_laws.proofs.Decisions.{goals_decide_alike}

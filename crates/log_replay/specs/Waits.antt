@@ -1,6 +1,5 @@
 -- The places on which processes wait, as a trial tells them. Only the crate's private clauses cite this file.
-use Rattle.std.specs.Prelude.{◌≡◌, ℕ, Bool, true, false, List, Option, Some}
-use Rattle.std.specs.List.{AllZip}
+use Rattle.std.specs.Prelude.{ℕ, Bool, true, false, List, Option, Some}
 use Rattle.fcp_model.specs.Programs.{Program}
 use Rattle.fcp_model.specs.States.{Process, State}
 use Rattle.fcp_model.specs.LawfulStates.{IsLawfulState}
