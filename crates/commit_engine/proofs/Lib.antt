@@ -1,3 +1,4 @@
+pub mod BareEntries
 pub mod Entering
 pub mod Keeping
 pub mod NewPlaces

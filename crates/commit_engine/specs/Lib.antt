@@ -1,8 +1,9 @@
-pub mod Finishing
 pub mod Halls
 pub mod Holding
-pub mod Making
-pub mod PlainHalls
-pub mod PlainLaws
 pub mod Takes
 pub mod Turns
+pub mod Bare
+pub mod Making
+pub mod Finishing
+pub mod PlainHalls
+pub mod PlainLaws

@@ -2,6 +2,7 @@
 #![tactic(auto)]
 
 mod answer;
+mod bare;
 mod change;
 mod hall;
 mod looking;
@@ -13,6 +14,7 @@ mod prepared;
 mod turns;
 
 pub use answer::{Spent, Turn};
+pub use bare::{control, fail};
 pub use hall::Hall;
 pub use plain_hall::PlainHall;
 pub use turns::{make_planned, turn};

@@ -185,6 +185,13 @@ impl PlainHall {
         })
     }
 
+    /// All its words, by their addresses from 0 on.
+    pub fn words(&self) -> &[u64]
+        ensures { result.now ≡ self.now.words.items }
+    {
+        self.words.as_slice()
+    }
+
     /// The entries in order of number. It takes no memory.
     pub fn into_log(self) -> Vec<Entry>
         ensures { result.items ≡ self.log.items }

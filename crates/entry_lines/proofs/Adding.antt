@@ -18,7 +18,7 @@ use Rattle.entry_lines.specs.Additions.{Gives, Adds}
 use Rattle.entry_lines.specs.Texts.{bound_text, bound_texts}
 
 -- what bounded definitions give
-gives_both : (f g : ℕ → Option Bytes) (a b : Bytes) → Gives f a → Gives g b → Gives (λ n. both_texts (f n) (g n)) (a ++ b)
+pub gives_both : (f g : ℕ → Option Bytes) (a b : Bytes) → Gives f a → Gives g b → Gives (λ n. both_texts (f n) (g n)) (a ++ b)
 gives_both f g a b (n, h) (m, i) = (n + m, λ k j. go (f k) (g k) (h k (omega arith)) (i k (omega arith)))
   where
     go : (x y : Option Bytes) → x ≡ Some a → y ≡ Some b → both_texts x y ≡ Some (a ++ b)
@@ -65,15 +65,15 @@ variable_added names bound name k t0 t1 t2 t3 t4 e1 e2 a e4 = record {
   given = gives_map _ (λ x. name_at names name.0 ++ codes " = " ++ x ++ codes "\n") a.added a.given;
 }
 
-both-nil : (o : Option Bytes) → both_texts o (Some []) ≡ o
+pub both-nil : (o : Option Bytes) → both_texts o (Some []) ≡ o
 both-nil None = refl
 both-nil (Some a) = ap Some (append-nil a)
 
-nil-both : (o : Option Bytes) → both_texts (Some []) o ≡ o
+pub nil-both : (o : Option Bytes) → both_texts (Some []) o ≡ o
 nil-both None = refl
 nil-both (Some a) = refl
 
-both-assoc : (a b c : Option Bytes) → both_texts (both_texts a b) c ≡ both_texts a (both_texts b c)
+pub both-assoc : (a b c : Option Bytes) → both_texts (both_texts a b) c ≡ both_texts a (both_texts b c)
 both-assoc None b c = refl
 both-assoc (Some a) None c = refl
 both-assoc (Some a) (Some b) None = refl

@@ -1,5 +1,6 @@
 pub mod Agreeing
 pub mod NamedWords
+pub mod DenotedTerms
 pub mod ShownValues
 pub mod Adding
 pub mod BoundTexts

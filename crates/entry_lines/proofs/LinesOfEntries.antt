@@ -23,7 +23,7 @@ use Rattle.word_states.specs.Trials.{AreAt, places_bound}
 use Rattle.word_states.specs.Going.{AllAt}
 use Rattle.entry_lines.specs.Additions.{Gives}
 use Rattle.entry_lines.specs.Lines.{CommitLine, IsCommitThere, HangLine}
-use Rattle.entry_lines.specs.Reading.{NamesPlace}
+use Rattle.entry_lines.specs.Reading.{NamesPlace, NamesSet}
 use Rattle.entry_lines.specs.Texts.{bound_texts, AddsAllBound, AddsProcesses}
 use Rattle.entry_lines.specs.Waits.{AreByAge}
 use Rattle.entry_lines.proofs.Agreeing.{wherever_later}
@@ -145,32 +145,35 @@ address_of kept (a ∷ as') (k ∷ js) h j i =
     ⊎_elim (λ (e : k ≡ j). (a, subst (λ (p : Place). NamesPlace kept a p) e h.0, inl refl))
     (λ (m : is_listed j js ≡ true). let r = address_of kept as' js h.1 j m in (r.0, r.1, inr r.2)) (listed_either k j js i)
 
+-- what was sorted is the waiting set
+pub set_named : (kept : WordList) (waits : List ℕ) (found sorted : List Place) → AllZip (NamesPlace kept) waits found
+    → ((j : Place) → (is_listed j found ≡ true) ↔ (is_listed j sorted ≡ true)) → AreByAge sorted → NamesSet kept waits sorted
+set_named kept waits found sorted named same by_age w book s has stands set reads places is =
+    one_list sorted set by_age (subst AreByAge (sym is) (among_by_age reads)) among all
+  where
+    among : (j : Place) → is_listed j sorted ≡ true → is_listed j set ≡ true
+    among j i =
+        let r = address_of kept waits found named j ((same j).1 i) in
+        let k = places.only r.0 r.2 in
+        subst (λ (p : Place). is_listed p set ≡ true) (sym (r.1 w book s has stands k.0 k.1)) k.2
+
+    all : (j : Place) → is_listed j set ≡ true → is_listed j sorted ≡ true
+    all j i =
+        let k = places.all j i in
+        let r = name_of kept waits found named k.0 k.2 in
+        (same j).0 (subst (λ (p : Place). is_listed p found ≡ true) (r.1 w book s has stands j k.1) r.2)
+
 -- a hang's line
-pub hang_adds : (names : List Bytes) (kept : WordList) (entry : ℕ) (process : Proc) (waits : List ℕ) (found sorted : List Place)
-    (old new : Bytes) → AllZip (NamesPlace kept) waits found
-    → ((j : Place) → (is_listed j found ≡ true) ↔ (is_listed j sorted ≡ true)) → AreByAge sorted
-    → new ≡ old ++ hang_line entry process sorted → HangLine names kept entry process waits old new
-hang_adds names kept entry process waits found sorted old new named same by_age behind w book ev has is = record {
+pub hang_adds : (names : List Bytes) (kept : WordList) (entry : ℕ) (process : Proc) (waits : List ℕ) (sorted : List Place)
+    (old new : Bytes) → NamesSet kept waits sorted → new ≡ old ++ hang_line entry process sorted
+    → HangLine names kept entry process waits old new
+hang_adds names kept entry process waits sorted old new named behind w book ev has is = record {
   added = hang_line entry process ev.waits_for;
-  behind = behind ∙ ap (λ (l : List Place). old ++ hang_line entry process l) one;
+  behind = behind ∙ ap (λ (l : List Place). old ++ hang_line entry process l)
+      (named w book ev.after has is.stands ev.waits_for is.by_age.0 is.places is.by_age.1);
   given = (
     0,
     λ k h. ap (λ (e : Entry). option_map (line_of ev.after.entries) (entry_text k names ev e)) is.is
         ∙ ap (λ (n : ℕ). Some (hang_line n process ev.waits_for)) is.number,
   );
 }
-  where
-    among : (j : Place) → is_listed j sorted ≡ true → is_listed j ev.waits_for ≡ true
-    among j i =
-        let r = address_of kept waits found named j ((same j).1 i) in
-        let k = is.places.only r.0 r.2 in
-        subst (λ (p : Place). is_listed p ev.waits_for ≡ true) (sym (r.1 w book ev.after has is.stands k.0 k.1)) k.2
-
-    all : (j : Place) → is_listed j ev.waits_for ≡ true → is_listed j sorted ≡ true
-    all j i =
-        let k = is.places.all j i in
-        let r = name_of kept waits found named k.0 k.2 in
-        (same j).0 (subst (λ (p : Place). is_listed p found ≡ true) (r.1 w book ev.after has is.stands j k.1) r.2)
-
-    one : sorted ≡ ev.waits_for
-    one = one_list sorted ev.waits_for by_age (subst AreByAge (sym is.by_age.1) (among_by_age is.by_age.0)) among all

@@ -8,4 +8,6 @@ mod names;
 mod values;
 mod variables;
 
+pub use hangs::waiting_set;
 pub use lines::{push_commit_line, push_hang_line, push_variable_lines};
+pub use names::process_name;

@@ -6,7 +6,7 @@ ghost use Rattle.word_states.specs.Words.{IsIn};
 ghost use Rattle.entry_lines.specs.Lines.{CommitLine, HangLine, VariableLines};
 
 use crate::commits::{push_all_bound, push_woken};
-use crate::hangs::{put_places, sort_once};
+use crate::hangs::waiting_set;
 use crate::variables::push_variable;
 use fcp_model::spelling::{push_bytes, push_decimal, push_process};
 use fcp_model::{Names, NoMemory, Proc, Sym, log_lines};
@@ -68,8 +68,7 @@ pub fn push_hang_line<W: Words>(
 {
     trail.clear();
     let mut places = Vec::new(*out.allocator());
-    put_places(&mut places, trail, words, waits)?;
-    sort_once(&mut places);
+    waiting_set(&mut places, trail, words, waits)?;
     log_lines::push_hang_line(out, entry, process, places.as_slice())?;
     Ok(())
 }

@@ -42,7 +42,7 @@ pub(crate) fn place_name<W: Words>(
 }
 
 /// The name of the process at an address. It stands in the word after its status.
-pub(crate) fn process_name<W: Words>(
+pub fn process_name<W: Words>(
     trail: &mut Trail,
     words: &mut W,
     process: u32,

@@ -1,7 +1,7 @@
 -- Texts that come from some number of steps on, one after another.
-use Rattle.std.proofs.Common.{◌≡◌, ℕ, zero, suc, ◌+◌, ◌≤◌, List, ◌++◌, Option, Some, None, refl, sym, ap, ◌∙◌, arith}
+use Rattle.std.proofs.Common.{◌≡◌, ℕ, zero, suc, ◌+◌, ◌≤◌, Option, Some, None, refl, ap, ◌∙◌, arith}
 use Rattle.fcp_model.specs.Spelling.{Bytes}
-use Rattle.fcp_model.specs.TermText.{Written, written, behind, before, and_then}
+use Rattle.fcp_model.specs.TermText.{Written, behind, before, and_then}
 use Rattle.leading_laws.proofs.Answers.{Stays}
 
 -- the same answer

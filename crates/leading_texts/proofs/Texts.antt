@@ -1,11 +1,11 @@
 -- Texts over bindings with shorter ways.
-use Rattle.std.proofs.Common.{◌≡◌, ℕ, zero, suc, ◌+◌, ◌≤◌, List, ◌++◌, Option, Some, None, codes, refl, sym, ap, ◌∙◌, arith}
+use Rattle.std.proofs.Common.{◌≡◌, ℕ, zero, suc, List, ◌++◌, Option, Some, None, codes, refl, sym, ap, ◌∙◌, arith}
 use Rattle.std.specs.Prelude.{option_map}
 use Rattle.fcp_model.specs.Places.{Variable}
 use Rattle.fcp_model.specs.Terms.{Term, number, string, nil, cons, tuple, var, ro, first, Terms, none, more, Bindings}
 use Rattle.fcp_model.specs.Value.{Look, solid, writable, read_only, value}
 use Rattle.fcp_model.specs.Spelling.{Bytes, string_text, name_at}
-use Rattle.fcp_model.specs.TermText.{Written, written, behind, before, and_then, leaf_text, string_of, term_text, look_text, rest_text, rest_on}
+use Rattle.fcp_model.specs.TermText.{Written, behind, before, and_then, leaf_text, string_of, term_text, look_text, rest_text, rest_on}
 use Rattle.fcp_model.specs.TermText.{tuple_text, parts_text, cut_text}
 use Rattle.fcp_model.proofs.MoreSteps.{value_more}
 use Rattle.fcp_laws.proofs.MoreTextSteps.{no_parts}
@@ -14,7 +14,7 @@ use Rattle.word_states.proofs.Leading.{leads_here}
 use Rattle.leading_laws.proofs.Answers.{Stays, stays}
 use Rattle.leading_laws.proofs.Values.{values_led}
 use Rattle.leading_texts.specs.Laws.{TextsComeAlike}
-use Rattle.leading_texts.proofs.Steady.{stays_same, stays_next, stays_soon, stays_now, stays_by, behind_stays, before_stays, then_stays}
+use Rattle.leading_texts.proofs.Steady.{stays_next, stays_soon, stays_by, behind_stays, before_stays, then_stays}
 
 module _ (names : List Bytes) (s short : Bindings) (shortened : AreShortened s short) where
   value_stays : (n : ℕ) (t u : Term Variable) (l : Look) → LeadsTo s t u → value n short u ≡ Some l → Stays (λ m. value m s t) l
@@ -72,7 +72,7 @@ module _ (names : List Bytes) (s short : Bindings) (shortened : AreShortened s s
       (λ v i. before_stays (codes "}") _ (λ m. parts_text m names s left t ts) v i h)
 
   mutual
-    term_on : (n left : ℕ) (t u : Term Variable) (w : Written) → LeadsTo s t u → term_text n names short left u ≡ Some w
+    pub term_on : (n left : ℕ) (t u : Term Variable) (w : Written) → LeadsTo s t u → term_text n names short left u ≡ Some w
         → Stays (λ m. term_text m names s left t) w
     term_on zero left t u w leads e = cc
     term_on (suc n) zero t u w leads e = stays_soon _ w (λ m. e)

@@ -8,9 +8,8 @@ use Rattle.fcp_model.specs.LawfulStates.{IsOrdered}
 use Rattle.fcp_model.specs.Events.{Event}
 use Rattle.fcp_model.specs.Runs.{last_state}
 use Rattle.heap_words.specs.Heaps.{inside_at}
-use Rattle.word_states.specs.Words.{Words}
 use Rattle.word_states.specs.Standing.{Book, StandsFor}
-use Rattle.word_states.proofs.Persisting.{status_up}
+use Rattle.run_laws.proofs.LaterStates.{later_stands}
 use Rattle.commit_engine.specs.PlainHalls.{IsSame}
 use Rattle.entry_lines.specs.Lines.{IsCommitThere, IsHangThere}
 use Rattle.log_replay.specs.declared.replay.Replay.{Replay}
@@ -78,35 +77,7 @@ kept_shown old new ev words bound woken waits entry entries h = record {
   move = shown_move old new h.book ev ev.entry words bound woken waits h.move;
 }
 
--- one entry more changes no word
-later_stands : (book : Book) (w : Words) (s : State) (mode : Mode) → StandsFor book w s
-    → StandsFor book w (record s { entries = suc s.entries; mode = mode })
-later_stands book w s mode stands = record {
-  places = stands.places;
-  processes = stands.processes;
-  once = stands.once;
-  short = stands.short;
-  shortened = stands.shortened;
-  says = stands.says;
-  process =
-      λ p x h. let r = stands.process p x h in
-      record {
-        status = (r.status.0, r.status.1, status_up s.entries (suc s.entries) r.status.0 x.status (omega arith) r.status.2);
-        name = r.name;
-        goal = r.goal;
-      };
-  statuses = stands.statuses;
-  lists = stands.lists;
-  hangers = λ j a e zs h is c z k. let r = stands.hangers j a e zs h is c z k in let le = r.1 in (r.0, omega arith);
-  hung = stands.hung;
-  waits = stands.waits;
-  own_free = stands.own_free;
-  own_absent = stands.own_absent;
-  dated_places = λ j a h. let le = stands.dated_places j a h in omega arith;
-  dated_bound = λ j t e. let le = stands.dated_bound j t e in omega arith;
-  dated_processes = λ p x h. let r = stands.dated_processes p x h in let le = r.0 in (omega arith, r.1);
-}
-
+-- one entry more changes no process
 later_ready : (book : Book) (s : State) (mode : Mode) (t : Table) → HasReady book s t
     → HasReady book (record s { entries = suc s.entries; mode = mode }) t
 later_ready book s mode t h = record {

@@ -8,6 +8,7 @@ mod mode;
 mod moves;
 mod ready_table;
 mod replay;
+mod snapshots;
 mod steps;
 
 pub use answer::{Stepped, Why};

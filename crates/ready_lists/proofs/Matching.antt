@@ -1,23 +1,24 @@
--- In words that stand for a state the Ready processes are those of the state, in order.
+-- In words that stand for a state the processes that stand so are those of the state, in order.
 use Rattle.std.proofs.Common.{◌≡◌, ◌⊎◌, ℕ, ◌<◌, ◌≤◌, ◌+◌, Bool, true, false, cond, List, [], ◌∷◌, length, refl, sym, ap, ◌∙◌, subst, arith}
 use Rattle.std.proofs.Common.{inl, inr, ⊎_elim}
-use Rattle.std.specs.Prelude.{nat_lt, pos, Some, filter}
+use Rattle.std.specs.Prelude.{nat_lt, pos, not, Some, filter}
 use Rattle.std.proofs.lemmas.Bool.Decides.{nat_tests}
 use Rattle.std.proofs.lemmas.Option.{same_Some}
 use Rattle.fcp_model.specs.declared.run.Proc.{Proc}
 use Rattle.fcp_model.specs.Places.{is_same_process, is_older_process}
 use Rattle.fcp_model.specs.LawfulStates.{Each, NamesRise, IsOrdered}
-use Rattle.fcp_model.specs.States.{Status, ready, waiting, finished, Process, State, is_ready}
+use Rattle.fcp_model.specs.States.{Status, ready, waiting, finished, Process, State, is_ready, is_finished}
 use Rattle.heap_words.specs.Cells.{decoded}
 use Rattle.heap_words.specs.Heaps.{inside_at}
 use Rattle.heap_words.specs.declared.cell.Cell.TheVariants.{Small}
 use Rattle.heap_words.specs.declared.cell.Cell.TheVariants as cell
 use Rattle.heap_words.specs.declared.cell.Stand.TheVariants as stand
+use Rattle.heap_words.specs.declared.cell.Stand.{Stand}
 use Rattle.word_states.specs.Words.{At, IsIn, AreDistinct}
 use Rattle.word_states.specs.Standing.{Book, StandsFor, StandsAt, StatusSays, ProcessAt, name_code}
 use Rattle.word_states.specs.Going.{AllAt}
-use Rattle.ready_lists.specs.Ready.{AreByNumber, AreReady}
-use Rattle.ready_lists.specs.Laws.{ReadyAreThoseOfTheState}
+use Rattle.ready_lists.specs.Ready.{stands_ready, stands_live, AreByNumber, AreListed}
+use Rattle.ready_lists.specs.Laws.{ReadyAreThoseOfTheState, LiveAreThoseOfTheState}
 
 -- the process is one of the list
 abbrev Has : List Process → Process → Type 0
@@ -95,15 +96,28 @@ older_code p q low older = go (nat_lt p.entry q.entry) refl
 own_name : (p : Proc) → is_same_process p p ≡ true
 own_name p = grind (arith, nat_tests)
 
-ready_said : (limit x : ℕ) (d : Status) → StatusSays limit x d → decoded x ≡ Some (cell.Status stand.Ready) → is_ready d ≡ true
-ready_said limit x ready h e = refl
-ready_said limit x finished h e = cc
-ready_said limit x (waiting ps) h e = let r = h.1 in cc
+-- the status of a process is read off its word
+abbrev Tells : (Stand → Bool) → (Status → Bool) → Type 0
+Tells stands is = (limit x : ℕ) (d : Stand) (t : Status) → StatusSays limit x t → decoded x ≡ Some (cell.Status d) → stands d ≡ is t
 
-said_ready : (limit x : ℕ) (d : Status) → StatusSays limit x d → is_ready d ≡ true → decoded x ≡ Some (cell.Status stand.Ready)
-said_ready limit x ready h e = h
-said_ready limit x finished h e = cc
-said_ready limit x (waiting ps) h e = cc
+same_stand : (x : ℕ) (d e : Stand) → decoded x ≡ Some (cell.Status d) → decoded x ≡ Some (cell.Status e) → d ≡ e
+same_stand x d e h i = let j : Some (cell.Status d) ≡ Some (cell.Status e) = sym h ∙ i in cc
+
+ready_tells : Tells stands_ready is_ready
+ready_tells limit x d ready h e = ap stands_ready (same_stand x d stand.Ready e h)
+ready_tells limit x d finished h e = ap stands_ready (same_stand x d stand.Done e h)
+ready_tells limit x d (waiting ps) h e = ap stands_ready (same_stand x d (stand.Waiting h.0) e h.1)
+
+live_tells : Tells stands_live (λ t. not (is_finished t))
+live_tells limit x d ready h e = ap stands_live (same_stand x d stand.Ready e h)
+live_tells limit x d finished h e = ap stands_live (same_stand x d stand.Done e h)
+live_tells limit x d (waiting ps) h e = ap stands_live (same_stand x d (stand.Waiting h.0) e h.1)
+
+-- the stand that a status says
+stand_said : (limit x : ℕ) (t : Status) → StatusSays limit x t → (d : Stand) × (decoded x ≡ Some (cell.Status d))
+stand_said limit x ready h = (stand.Ready, h)
+stand_said limit x finished h = (stand.Done, h)
+stand_said limit x (waiting ps) h = (stand.Waiting h.0, h.1)
 
 module _ (ws : List ℕ) {book : Book} {s : State} (stands : StandsFor book (inside_at ws) s) where
   older : (p q : ℕ) (x y : Process) → ProcessAt book s p x → is_older_process x.name y.name ≡ true → code x < code y
@@ -161,21 +175,26 @@ module _ (ws : List ℕ) {book : Book} {s : State} (stands : StandsFor book (ins
           (each_has (λ (x : Process). is_older_process y.name x.name ≡ true) ys z rise.0 h) (one_process q r y z here at e))
       later_address z h r at (inr i) = i
 
-  these : (qs : List ℕ) → AreReady ws qs → IsOrdered s → AllAt book s qs (filter (λ p. is_ready p.status) s.processes)
-  these qs are ordered = matched qs (filter (λ p. is_ready p.status) s.processes)
+  these : (st : Stand → Bool) (is : Status → Bool) → Tells st is → (qs : List ℕ) → AreListed st ws qs → IsOrdered s
+      → AllAt book s qs (filter (λ p. is p.status) s.processes)
+  these st is tells qs are ordered = matched qs (filter (λ p. is p.status) s.processes)
       (λ q i.
       let at = are.only q i in
-      let r = stands.statuses q stand.Ready at in
+      let r = stands.statuses q at.0 at.2 in
       let u = (stands.process q r.0 r.1).status in
-      let same : u.0 ≡ at.0 = same_Some u.0 at.0 (sym u.1 ∙ at.1) in
-      let is : is_ready r.0.status ≡ true = ready_said s.entries u.0 r.0.status u.2 (ap decoded same ∙ at.2) in
-      (r.0, has_filter (λ p. is_ready p.status) s.processes r.0 (stands_has book.processes s.processes q r.0 r.1) is, r.1))
+      let same : u.0 ≡ at.2.0 = same_Some u.0 at.2.0 (sym u.1 ∙ at.2.1) in
+      let so : is r.0.status ≡ true = sym (tells s.entries u.0 at.0 r.0.status u.2 (ap decoded same ∙ at.2.2)) ∙ at.1 in
+      (r.0, has_filter (λ p. is p.status) s.processes r.0 (stands_has book.processes s.processes q r.0 r.1) so, r.1))
       (λ y h.
-      let t = filter_has (λ p. is_ready p.status) s.processes y h in
+      let t = filter_has (λ p. is p.status) s.processes y h in
       let p = has_stands book.processes s.processes y stands.processes t.0 in
       let u = (stands.process p.0 y p.1).status in
-      (p.0, are.all p.0 (u.0, u.1, said_ready s.entries u.0 y.status u.2 t.1), p.1))
-      are.once are.by_name (rise_filter (λ p. is_ready p.status) s.processes ordered.rise)
+      let d = stand_said s.entries u.0 y.status u.2 in
+      (p.0, are.all p.0 d.0 (tells s.entries u.0 d.0 y.status u.2 d.1 ∙ t.1) (u.0, u.1, d.1), p.1))
+      are.once are.by_name (rise_filter (λ p. is p.status) s.processes ordered.rise)
 
 pub ready_are_those : ReadyAreThoseOfTheState
-ready_are_those ws qs book s are stands ordered = these ws stands qs are ordered
+ready_are_those ws qs book s are stands ordered = these ws stands stands_ready is_ready ready_tells qs are ordered
+
+pub live_are_those : LiveAreThoseOfTheState
+live_are_those ws qs book s are stands ordered = these ws stands stands_live (λ t. not (is_finished t)) live_tells qs are ordered

@@ -11,7 +11,6 @@ use Rattle.heap_words.specs.HeapLaws.{inside_below, inside_is, inside_known}
 use Rattle.heap_words.specs.declared.cell.Cell.{Cell}
 use Rattle.heap_words.specs.declared.cell.Cell.TheVariants.{Status}
 use Rattle.heap_words.specs.declared.cell.Stand.{Stand}
-use Rattle.heap_words.specs.declared.cell.Stand.TheVariants.{Ready}
 use Rattle.heap_words.proofs.QuietHeaps.{below_top}
 use Rattle.word_states.specs.Words.{At}
 
@@ -51,11 +50,11 @@ pub at_from_place : (ws : List ℕ) (a d : ℕ) (c : Cell) → is_inside ws a �
 at_from_place ws a d c i e = (get_or ws a d, inside_is ws a _ i (slice_get-get_or ws a d (inside_below ws a i)), e)
 
 -- a page's first word is no status
-pub first_is_top : (ws : List ℕ) (p : ℕ) → IsHeap ws → 1024 * p < length ws → At (inside_at ws) (1024 * p) (Status Ready) → ⊥
-first_is_top ws p heap there h =
+pub first_is_top : (ws : List ℕ) (p : ℕ) (d : Stand) → IsHeap ws → 1024 * p < length ws → At (inside_at ws) (1024 * p) (Status d) → ⊥
+first_is_top ws p d heap there h =
     let up : 1024 * p < top_at ws (1024 * p) = heap.above p there in
     let zero : 0 ≡ top_at ws (1024 * p) =
-    ap top_said (sym (cell_at_place ws (1024 * p) 0 (Status Ready) h)) ∙ top_is ws (1024 * p) 0 there in
+    ap top_said (sym (cell_at_place ws (1024 * p) 0 (Status d) h)) ∙ top_is ws (1024 * p) 0 there in
     omega arith
 
 -- behind a status another word stands

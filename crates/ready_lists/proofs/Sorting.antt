@@ -1,4 +1,4 @@
--- The list of Ready processes, sorted.
+-- The list of those that are sought, sorted.
 use Rattle.std.proofs.Common.{◌≡◌, ℕ, zero, suc, ◌+◌, ◌<◌, ◌≤◌, Bool, true, false, List, [], ◌∷◌, length, map, get_or, refl, sym, ap, subst}
 use Rattle.std.proofs.Common.{arith, inl, inr}
 use Rattle.std.specs.Prelude.{nat_lt, pos, Contains, IsPermutation, IsSorted, slice_index_or}
@@ -14,11 +14,11 @@ use Rattle.std.proofs.lemmas.Map.Keys.{IsDistinct-IsPermutation}
 use Rattle.heap_words.specs.Heaps.{inside_at}
 use Rattle.heap_words.specs.HeapLaws.{inside_below, inside_known}
 use Rattle.heap_words.specs.declared.cell.Cell.TheVariants.{Small, Status}
-use Rattle.heap_words.specs.declared.cell.Stand.TheVariants.{Ready}
+use Rattle.heap_words.specs.declared.cell.Stand.{Stand}
 use Rattle.word_states.specs.Words.{At, IsIn, AreDistinct}
-use Rattle.ready_lists.specs.Ready.{AreByNumber, AreReady}
-use Rattle.ready_lists.specs.Finding.{IsFound, is_one, HasReady}
-use Rattle.ready_lists.specs.declared.ready.Found.{Found}
+use Rattle.ready_lists.specs.Ready.{AreByNumber, AreListed}
+use Rattle.ready_lists.specs.Finding.{IsFound, is_one, HasFound}
+use Rattle.ready_lists.specs.declared.listing.Found.{Found}
 
 abbrev pub order : Found → Found → Ordering
 order f g = ordering_then (nat_cmp f.name g.name) (nat_cmp f.process g.process)
@@ -72,10 +72,10 @@ each_once (f ∷ fs) h = (
   each_once fs h.1,
 )
 
-numbers_rise : (ws : List ℕ) (fs : List Found) → ((f : Found) → Contains fs f → IsFound ws f)
+numbers_rise : (stands : Stand → Bool) (ws : List ℕ) (fs : List Found) → ((f : Found) → Contains fs f → IsFound stands ws f)
     → IsNonDecreasingBy (λ (f : Found). f.name) fs → AreByNumber ws (addresses_of fs)
-numbers_rise ws [] is up = tt
-numbers_rise ws (f ∷ fs) is up = (
+numbers_rise stands ws [] is up = tt
+numbers_rise stands ws (f ∷ fs) is up = (
   λ r n k i hn hk.
       let t = in_addresses fs r i in
       let c = t.1 in
@@ -85,24 +85,24 @@ numbers_rise ws (f ∷ fs) is up = (
       let le : f.name ≤ (slice_index_or fs c.0 t.0).name = up 0 (suc c.0) t.0 (omega arith) (omega (arith, c.1)) in
       let same : (slice_index_or fs c.0 t.0).name ≡ t.0.name = ap (λ (z : Found). z.name) c.2 in
       omega (arith, here, there, le, same),
-  numbers_rise ws fs (λ g c. is g (suc c.0, omega (arith, c.1), c.2)) (λ i j d l m. up (suc i) (suc j) d (omega arith) (omega arith)),
+  numbers_rise stands ws fs (λ g c. is g (suc c.0, omega (arith, c.1), c.2)) (λ i j d l m. up (suc i) (suc j) d (omega arith) (omega arith)),
 )
 
 -- what was found below the end of the words, sorted
-pub are_ready : (ws : List ℕ) (n : ℕ) (fs gs : List Found) (qs : List ℕ) → length ws ≤ n → HasReady ws n fs → IsPermutation fs gs
-    → IsSorted order gs → qs ≡ addresses_of gs → AreReady ws qs
-are_ready ws n fs gs qs le h moved up e = subst (AreReady ws) (sym e) (record {
-  all = λ a t.
+pub are_listed : (stands : Stand → Bool) (ws : List ℕ) (n : ℕ) (fs gs : List Found) (qs : List ℕ) → length ws ≤ n
+    → HasFound stands ws n fs → IsPermutation fs gs → IsSorted order gs → qs ≡ addresses_of gs → AreListed stands ws qs
+are_listed stands ws n fs gs qs le h moved up e = subst (AreListed stands ws) (sym e) (record {
+  all = λ a d s t.
       let low : a < length ws = inside_below ws a (inside_known ws a t.0 t.1) in
-      let r = h.all a (omega (arith, low, le)) t in
+      let r = h.all a (omega (arith, low, le)) d s t in
       let c = Contains-permutation fs gs r.0 moved r.1 in
       subst (λ b. IsIn b (addresses_of gs)) r.2 (address_at gs r.0 c.0 c.1 c.2);
   only = λ a i.
       let r = in_addresses gs a i in
-      subst (λ b. At (inside_at ws) b (Status Ready)) r.2 (found r.0 r.1).status;
+      subst (λ b. (d : Stand) × (stands d ≡ true) × At (inside_at ws) b (Status d)) r.2 (found r.0 r.1).status;
   once = each_once gs (IsDistinct-IsPermutation is_one (λ x y. grind (arith, nat_tests)) fs gs moved h.once);
-  by_name = numbers_rise ws gs found (by_number gs up);
+  by_name = numbers_rise stands ws gs found (by_number gs up);
 })
   where
-    found : (f : Found) → Contains gs f → IsFound ws f
+    found : (f : Found) → Contains gs f → IsFound stands ws f
     found f c = (h.only f (Contains-permutation gs fs f (IsPermutation-sym fs gs moved) c)).1

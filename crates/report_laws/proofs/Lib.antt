@@ -1,2 +1,3 @@
 pub mod AddedLines
+pub mod MoreEvents
 pub mod WrittenReports

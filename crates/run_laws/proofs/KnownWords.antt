@@ -1,9 +1,7 @@
 -- Addresses in use: those of places, of processes and of the front.
 use Rattle.std.proofs.Common.{◌≡◌, ℕ, ◌+◌, ◌-◌, List, [], ◌∷◌, subst, ⊎_elim, arith}
 use Rattle.fcp_model.specs.declared.run.Place.{Place}
-use Rattle.fcp_model.specs.declared.run.Limits.{Limits}
 use Rattle.fcp_model.specs.Places.{made}
-use Rattle.fcp_model.specs.Programs.{Program}
 use Rattle.fcp_model.specs.States.{Process, State, Status, ready}
 use Rattle.fcp_model.specs.Events.{Event}
 use Rattle.fcp_model.specs.OneWorker.{Schedule}
@@ -15,7 +13,7 @@ use Rattle.word_states.specs.Words.{At, IsIn}
 use Rattle.word_states.specs.Standing.{Book, StandsFor, StatusSays, PlaceAt, ProcessAt}
 use Rattle.word_states.specs.Trials.{AreAt}
 use Rattle.word_states.specs.Going.{AllAt}
-use Rattle.run_laws.specs.Running.{Counts, StandsAt, IsPlaceInUse, IsProcessInUse}
+use Rattle.run_laws.specs.Running.{Setting, Counts, StandsAt, IsPlaceInUse, IsProcessInUse}
 use Rattle.run_laws.proofs.Fronts.{front_of}
 use Rattle.run_laws.proofs.Steps.{sound}
 use Rattle.fcp_laws.proofs.SoundSchedules.{front_is_ready}
@@ -54,11 +52,10 @@ processes_known ws book s (b ∷ bs) (x ∷ xs) heap stands h q i = ⊎_elim
 ready_word : (limit x : ℕ) (st : Status) → StatusSays limit x st → st ≡ ready → StatusSays limit x ready
 ready_word limit x st h e = subst (StatusSays limit x) e h
 
-pub front_ready : (m : Program) (limits : Limits) (from : State) (vars : ℕ) (ws rest : List ℕ) (p : ℕ) (c : Counts) (evs : List Event)
-    (at : Schedule) (book : Book) → StandsAt m limits from vars ws (p ∷ rest) c evs at book
-    → At (inside_at ws) p (cell.Status stand.Ready)
-front_ready m limits from vars ws rest p c evs at book r =
-    let f = front_of book at.state p rest at.queue r.queued in
-    let found = front_is_ready at (sound m limits from vars ws (p ∷ rest) c evs at book r) f.process f.behind f.queue in
-    let s = (r.stands.process p f.process f.at_front).status in
+pub front_ready : (r : Setting) (ws rest : List ℕ) (p : ℕ) (c : Counts) (evs : List Event) (at : Schedule) (book : Book)
+    → StandsAt r ws (p ∷ rest) c evs at book → At (inside_at ws) p (cell.Status stand.Ready)
+front_ready r ws rest p c evs at book here =
+    let f = front_of book at.state p rest at.queue here.queued in
+    let found = front_is_ready at (sound r ws (p ∷ rest) c evs at book here) f.process f.behind f.queue in
+    let s = (here.stands.process p f.process f.at_front).status in
     (s.0, s.1, ready_word at.state.entries s.0 f.process.status s.2 found.1)

@@ -2,7 +2,8 @@ pub mod CountedRuns
 pub mod FoundMoves
 pub mod Fronts
 pub mod KnownWords
-pub mod MoveLines
+pub mod LaterStates
+pub mod MadeControls
 pub mod NewPlaces
 pub mod Passing
 pub mod RuledFronts

@@ -6,7 +6,7 @@ use Rattle.fcp_model.specs.declared.run.Control.{Control}
 use Rattle.fcp_model.specs.declared.run.Entry.TheVariants.{Commit, Hang, Fail}
 use Rattle.fcp_model.specs.Places.{place}
 use Rattle.fcp_model.specs.Programs.{Goal}
-use Rattle.fcp_model.specs.States.{Process, State, is_ready, start}
+use Rattle.fcp_model.specs.States.{Process, State, is_open, is_ready, start}
 use Rattle.fcp_model.specs.Events.{Event, control_event}
 use Rattle.fcp_model.specs.Bounds.{act_entry}
 use Rattle.fcp_model.specs.OneWorker.{Schedule, IsOneWorkerRun, begin, is_over, mode_after}
@@ -23,10 +23,11 @@ use Rattle.word_states.specs.Going.{Move, MayGo, GoesOn, AllAt}
 use Rattle.run_laws.specs.Running.{Setting, Counts, StandsAt, IsGoing, IsFront, IsOfFront, FrontCosts, IsFoundMove, IsAtEnd, FailedAt}
 use Rattle.run_laws.specs.Running.{IsPlaceInUse, IsProcessInUse, first_counts, outcome_by, after_commit, after_hang, after_pass, after_control}
 
--- where a run stands, a move that found what it read may go; names have room for its number
+-- where an open run stands, a move that found what it read may go; names have room for its number
 abbrev pub AFoundMoveMayGo : Type 0
 AFoundMoveMayGo = (r : Setting) (ws queue : List ℕ) (c : Counts) (evs : List Event) (at : Schedule) (book : Book) (v : Move)
-    → StandsAt r ws queue c evs at book → c.entries + 1 < 134217728 → HasAll v.reads (inside_at ws) → MayGo v book ws at.state
+    → StandsAt r ws queue c evs at book → c.mode ≡ is_open → c.entries + 1 < 134217728 → HasAll v.reads (inside_at ws)
+    → MayGo v book ws at.state
 
 -- the event of a move of the front is the one that is decided for it
 abbrev pub AnEventIsOfTheFront : Type 0

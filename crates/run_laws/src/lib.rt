@@ -2,7 +2,7 @@
 //! contract is the law.
 #![tactic(auto)]
 
-ghost use Rattle.run_laws.specs.Laws.{AFoundMoveMayGo, AFoundMoveGoesOn, AnEventIsOfTheFront, ACommitLeadsOn, AHangLeadsOn, AFrontCosts, APassLeadsOn, AFailEnds, ALimitEnds, ACommitBindsNew, AHangWaitsByAge, ABeginningStands, AnOutcomeIsCounted, AFrontIsReady, PlacesAreInUse, ProcessesAreInUse};
+ghost use Rattle.run_laws.specs.Laws.{AFoundMoveMayGo, AFoundMoveGoesOn, AnEventIsOfTheFront, AFrontCosts, ACommitLeadsOn, AHangLeadsOn, APassLeadsOn, AControlLeadsOn, AFailEnds, AnEndEnds, ABeginningStands, AnOutcomeIsCounted, AFrontIsReady, PlacesAreInUse, ProcessesAreInUse};
 
 /// A move of the front that found what it read may go, and its event is the one that is decided for the front. Its cells can be told before
 /// it is planned.
@@ -13,23 +13,18 @@ pub fn front_moves()
     ensures costs { AFrontCosts }
 {}
 
-/// A commit, a hang and a pass lead to where the run stands again.
+/// A commit, a hang, a pass and a control lead to where the run stands again.
 pub fn leading_moves()
     ensures commit { ACommitLeadsOn }
     ensures hang { AHangLeadsOn }
     ensures pass { APassLeadsOn }
+    ensures control { AControlLeadsOn }
 {}
 
-/// The run ends with a fail, and at its limits.
+/// The run ends with a fail of the front, and where nothing more is made of it.
 pub fn ends()
     ensures fail { AFailEnds }
-    ensures limit { ALimitEnds }
-{}
-
-/// What a commit of the front binds, and for what a hang of the front waits.
-pub fn lines_of_moves()
-    ensures commit { ACommitBindsNew }
-    ensures hang { AHangWaitsByAge }
+    ensures end { AnEndEnds }
 {}
 
 /// Where a run begins, and the outcome with which it ends.

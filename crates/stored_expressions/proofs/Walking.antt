@@ -49,12 +49,12 @@ module _ {S : Type 0} {addresses : S → ℕ} {sound : S → Type 0} {knows : S 
             laws.reaches_by w x a y (66 + operator_code o) (a + 2) (cell.Tuple a) so l is refl h raw (omega arith, omega (arith, two)),
           )
 
-  -- the visit of a word in front of others
-  pub visit_falls : {kept binds kept' binds' : WordList} {v w : S} (x : ℕ) (ws ws' : List ℕ) (s : ExprStep)
+  -- the visit of a word in front of others, where what was seen tells it
+  pub seen_visit_falls : {kept binds kept' binds' : WordList} {v w : S} (x : ℕ) (ws ws' : List ℕ)
       → KeepsLoads sound had leads later gave kept binds v kept' binds' w → binds' ≡ binds → Tame binds kept (own v) (addresses v)
-      → Says (own w) kept' (λ m. Visits m x ws s ws')
+      → ws' ≡ operands (seen_memory kept' (own w)) (operation_of (seen_memory kept' (own w)) x) ++ ws
       → words_left (addresses w) binds' kept' (own w) ws' < words_left (addresses v) binds kept (own v) (x ∷ ws)
-  visit_falls {kept = kept} {binds = binds} {kept' = kept'} {binds' = binds'} {v = v} {w = w} x ws ws' s l same t says =
+  seen_visit_falls {kept = kept} {binds = binds} {kept' = kept'} {binds' = binds'} {v = v} {w = w} x ws ws' l same t now =
       words_fall laws (x ∷ ws) ws' l same falls
       (omega (
         arith,
@@ -69,9 +69,6 @@ module _ {S : Type 0} {addresses : S → ℕ} {sound : S → Type 0} {knows : S 
 
       least : (y : ℕ) → 0 < f y
       least y = omega arith
-
-      now : ws' ≡ operands (seen_memory kept' (own w)) (operation_of (seen_memory kept' (own w)) x) ++ ws
-      now = (says (seen_memory kept' (own w)) (agrees laws 6 l.holds)).1
 
       less : (o : Option (ArithOp × ℕ)) → operation_of (seen_memory kept (own v)) x ≡ o
           → total f (operands (seen_memory kept (own v)) o) < f x
@@ -93,3 +90,11 @@ module _ {S : Type 0} {addresses : S → ℕ} {sound : S → Type 0} {knows : S 
             total_append f (operands (seen_memory kept (own v)) (operation_of (seen_memory kept (own v)) x)) ws,
             less (operation_of (seen_memory kept (own v)) x) refl,
           )
+
+  -- and where it is said
+  pub visit_falls : {kept binds kept' binds' : WordList} {v w : S} (x : ℕ) (ws ws' : List ℕ) (s : ExprStep)
+      → KeepsLoads sound had leads later gave kept binds v kept' binds' w → binds' ≡ binds → Tame binds kept (own v) (addresses v)
+      → Says (own w) kept' (λ m. Visits m x ws s ws')
+      → words_left (addresses w) binds' kept' (own w) ws' < words_left (addresses v) binds kept (own v) (x ∷ ws)
+  visit_falls {kept' = kept'} {w = w} x ws ws' s l same t says =
+      seen_visit_falls x ws ws' l same t (says (seen_memory kept' (own w)) (agrees laws 6 l.holds)).1

@@ -6,7 +6,7 @@ ghost use Rattle.ro_unify.specs.Walks.{Tame};
 ghost use Rattle.guard_tests.specs.Evaluation.{OperandLeads};
 ghost use Rattle.stored_expressions.specs.Listing.{Visits, Lists};
 
-use crate::operation::operation;
+use crate::operators::operation;
 use fcp_model::NoMemory;
 use heap_words::{ExprStep, Trail, Words};
 

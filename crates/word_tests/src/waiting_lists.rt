@@ -163,13 +163,38 @@ fn many(alloc: Global, count: u32) -> Result<Slots, NoMemory> {
     Ok(slots)
 }
 
+/// Whether these are so many processes, each once and by its name: the last one has the least name.
+fn are_all(processes: &[u32], count: u32) -> bool {
+    let mut above = count.saturating_mul(8);
+    for process in processes {
+        if process.checked_add(8) != Some(above) {
+            return false;
+        }
+        above = *process;
+    }
+    above == 0
+}
+
+/// Whether these writes make these processes Ready, in their order.
+fn are_woken(writes: &[(u32, u64)], processes: &[u32]) -> bool {
+    if writes.len() != processes.len() {
+        return false;
+    }
+    for (write, process) in writes.iter().zip(processes) {
+        if *write != (*process, encode(Cell::Status(Stand::Ready))) {
+            return false;
+        }
+    }
+    true
+}
+
 #[test]
 fn many_processes_wait_on_one_place(rt: HostRuntime) -> Result<(), Fail> {
     let mut slots = many(rt.alloc(), 5000)?;
     let found = waiting(rt.alloc(), &mut slots, 8 * 4999 + PLACE)?;
-    assert_eq!(rt; found.len(), 5000);
-    assert_eq!(rt; found.first().copied(), Some(8 * 4999));
-    assert_eq!(rt; found.last().copied(), Some(0));
+    assert!(rt; are_all(found.as_slice(), 5000));
+    let woken = waking(rt.alloc(), &mut slots, 8 * 4999 + PLACE, PLACE)?;
+    assert!(rt; are_woken(woken.as_slice(), found.as_slice()));
     Ok(())
 }
 

@@ -2,6 +2,7 @@
 use Rattle.std.specs.Prelude.{◌≡◌, ℕ, ◌+◌, ◌≤◌, List, length}
 use Rattle.fcp_model.specs.Programs.{Program}
 use Rattle.fcp_model.specs.States.{State}
+use Rattle.fcp_model.specs.ClosedPrograms.{IsClosed}
 use Rattle.fcp_model.specs.Events.{Event}
 use Rattle.fcp_model.specs.Runs.{IsRun, entries_of, cells_of}
 use Rattle.fcp_model.specs.Outcomes.{Ends}
@@ -23,8 +24,10 @@ first_state t = start_of t.loaded.now t.goal.now.0
 abbrev pub vars : Task → ℕ
 vars t = length t.goal.now.0.names
 
--- The goal may be laid, the code is that of the program, the limits are small, and a run can keep the controls, of which there are few.
+-- The program is closed, the goal may be laid, the code is that of the program, the limits are small, and a run can keep the controls, of
+-- which there are few.
 pub record IsTask (t : Task) : Type 0 where
+  pub closed : IsClosed (program t)
   pub laid : MayBeLaid t.loaded.now t.goal.now
   pub code : IsCodeOf t.code.now (program t)
   pub commits : t.limits.commits ≤ 1000000

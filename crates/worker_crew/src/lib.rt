@@ -1,11 +1,12 @@
-//! The run of one worker over a plain hall, with its report.
+//! The run of one worker over a plain hall: its log, its outcome, and how many of the controls it made.
 #![tactic(auto)]
 
 mod engine;
+mod mode;
+mod one_worker;
 mod queues;
-mod report;
-mod run;
 mod starting;
+mod task;
 
-pub use report::Report;
-pub use run::run_goal;
+pub use one_worker::alone;
+pub use task::{Run, Task};

@@ -6,4 +6,4 @@ pub returns-clause-first : goal.returns-clause-first
 returns-clause-first c = begins
 
 pub returns-clause-outcome : goal.returns-clause-outcome
-returns-clause-outcome c = λ m limits from vars ws queue c evs at book r. outcome_is m limits from vars ws queue c evs at book r
+returns-clause-outcome c = outcome_is

@@ -3,8 +3,7 @@ use Rattle.run_laws.proofs.Steps.{fails_there, ended}
 use Rattle.run_laws.proofs.ends.Goals as goal
 
 pub returns-clause-fail : goal.returns-clause-fail
-returns-clause-fail c = λ m limits from vars ws rest p c evs at book v w' q r f g e.
-    fails_there m limits from vars ws rest p c evs at book v r f w' g q e
+returns-clause-fail c = λ r ws rest p c evs at book v w' q here f g e. fails_there r ws rest p c evs at book v here f w' g q e
 
-pub returns-clause-limit : goal.returns-clause-limit
-returns-clause-limit c = λ m limits from vars ws queue c evs at book r e. ended m limits from vars ws queue c evs at book r e
+pub returns-clause-end : goal.returns-clause-end
+returns-clause-end c = ended

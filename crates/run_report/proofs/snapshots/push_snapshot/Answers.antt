@@ -1,0 +1,42 @@
+use Rattle.worker_crew.specs.Tasks.{program, first_state}
+use Rattle.run_report.proofs.PutTexts.{where_ok, snapshot_put}
+use Rattle.run_report.proofs.snapshots.push_snapshot.Goals as goal
+
+pub returns-in_err-goal_lines-clause-made : goal.returns-in_err-goal_lines-clause-made
+returns-in_err-goal_lines-clause-made c = λ evs made.
+    let t = c.args.task.now in c.goal_lines.ensures.replayed (program t) (first_state t) t.limits.cells evs made
+
+pub process_lines-requires-clause-standing : goal.process_lines-requires-clause-standing
+process_lines-requires-clause-standing c =
+    let t = c.args.task.now in
+    let had = c.requires.made in
+    record {
+      goal = t.goal.now;
+      cells = t.limits.cells;
+      events = had.events;
+      laid = c.requires.task.laid;
+      replayed = c.goal_lines.ensures.replayed (program t) (first_state t) t.limits.cells had.events had.made;
+    }
+
+pub returns-in_err-process_lines-clause-made : goal.returns-in_err-process_lines-clause-made
+returns-in_err-process_lines-clause-made c = λ evs made.
+    let t = c.args.task.now in
+    let shown = c.goal_lines.ensures.replayed (program t) (first_state t) t.limits.cells evs made in
+    c.process_lines.ensures.replayed (program t) (first_state t) t.limits.cells evs shown
+
+pub returns-clause-made : goal.returns-clause-made
+returns-clause-made c = λ evs made.
+    let t = c.args.task.now in
+    let shown = c.goal_lines.ensures.replayed (program t) (first_state t) t.limits.cells evs made in
+    c.process_lines.ensures.replayed (program t) (first_state t) t.limits.cells evs shown
+
+pub returns-clause-snapshot : goal.returns-clause-snapshot
+returns-clause-snapshot c = λ evs made count.
+    let t = c.args.task.now in
+    let shown = c.goal_lines.ensures.replayed (program t) (first_state t) t.limits.cells evs made in
+    where_ok c.push_bytes.result
+    (λ done. snapshot_put c.args.names.now t evs c.args.replay.now c.args.entries c.args.out.now.items c.push_snapshot_line.new.out.items
+    c.goal_lines.new.out.items c.process_lines.new.out.items c.push_bytes.new.text.items made count c.snapshots.ensures.written
+    c.in_ok-push_snapshot_line.ensures (c.in_ok-goal_lines.ensures.lines t.loaded.now t.limits.cells evs made)
+    (c.in_ok-process_lines.ensures.lines t.goal.now t.limits.cells evs c.requires.task.laid shown) done)
+    c.push_bytes.ensures.ok
