@@ -13,3 +13,5 @@ pub mod ShownLines
 pub mod FirstReplays
 pub mod PlannedMoves
 pub mod StepAnswers
+pub mod ToldWaits
+pub mod AllWaits

@@ -1,5 +1,5 @@
 -- What each way of a step says.
-use Rattle.std.proofs.Common.{◌≡◌, ◌⊎◌, ℕ, ◌+◌, ◌-◌, ◌/◌, ◌<◌, false, List, [], length, Option, Some, None}
+use Rattle.std.proofs.Common.{◌≡◌, ◌⊎◌, ℕ, ◌-◌, ◌/◌, ◌<◌, false, List, [], length, Option, Some, None}
 use Rattle.std.proofs.Common.{refl, sym, ap, ◌∙◌, subst, inl, inr, arith}
 use Rattle.std.specs.Prelude.{MatchOption}
 use Rattle.fcp_model.specs.declared.run.Proc.{Proc}
@@ -9,7 +9,7 @@ use Rattle.fcp_model.specs.Programs.{Program}
 use Rattle.fcp_model.specs.Decisions.{Decision, commits, decides_fail, waits_on}
 use Rattle.fcp_model.specs.States.{State, is_failed}
 use Rattle.fcp_model.specs.Events.{Event, event_of, control_event}
-use Rattle.fcp_model.specs.Runs.{allows, last_state, cells_of}
+use Rattle.fcp_model.specs.Runs.{allows, last_state}
 use Rattle.word_moves.specs.declared.word_move.WordMove.{WordMove}
 use Rattle.std.specs.Prelude.{if◌then◌else◌}
 use Rattle.move_plans.specs.declared.planner.Planner.{Planner}
@@ -27,7 +27,7 @@ use Rattle.log_replay.specs.declared.mode.RunMode.TheVariants as mode
 use Rattle.log_replay.specs.declared.replay.Replay.{Replay}
 use Rattle.log_replay.specs.declared.answer.Stepped.{Stepped}
 use Rattle.log_replay.specs.declared.answer.Stepped.TheVariants as answer
-use Rattle.log_replay.specs.Replays.{room_of, mode_of, IsAtRest, IsReplayed, IsAllowedMove, IsDone, IsSpent, StepSays, Shows, StillShows}
+use Rattle.log_replay.specs.Replays.{room_of, mode_of, IsReplayed, IsAllowedMove, IsDone, StepSays, Shows, StillShows}
 use Rattle.log_replay.specs.Parts.{IsControl, IsForbidden, LeadsTo, mode_behind, IsMoving, MayMake}
 use Rattle.log_replay.specs.Parts.{MayMakeSome, AreInUse, NotedSays, NotesEntry}
 use Rattle.log_replay.proofs.GoingMoves as going

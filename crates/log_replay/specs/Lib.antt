@@ -1,3 +1,4 @@
 pub mod Tables
 pub mod Replays
 pub mod Parts
+pub mod Waits

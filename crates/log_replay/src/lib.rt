@@ -10,6 +10,7 @@ mod ready_table;
 mod replay;
 mod snapshots;
 mod steps;
+mod waits;
 
 pub use answer::{Stepped, Why};
 pub use replay::Replay;

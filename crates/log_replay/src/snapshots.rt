@@ -12,8 +12,11 @@ ghost use Rattle.entry_lines.specs.Additions.{Adds};
 ghost use Rattle.log_replay.specs.Replays.{IsReplayed, IsStanding, Shows, room_of};
 
 use crate::replay::Replay;
+use crate::waits::all_places;
 use fcp_model::{Loaded, Names, NoMemory};
 use machine_code::Code;
+use process_texts::{ProcessLists, push_process_lines};
+use ready_lists::{live_processes, live_states};
 use std::alloc::Global;
 
 impl Replay {
@@ -38,7 +41,24 @@ impl Replay {
         ensures shows { (ev : Event) → Shows ev self.old → Shows ev self.new }
         ensures room { room_of self.new ≡ room_of self.old }
     {
-        let _ = (alloc, names, loaded, code, out);
-        Err(NoMemory)
+        live_states();
+        let processes = live_processes(alloc, self.hall.words())?;
+        let waits = all_places(
+            alloc,
+            &mut self.hall,
+            &mut self.planner.machine,
+            code,
+            processes.as_slice(),
+        )?;
+        push_process_lines(
+            &mut ProcessLists::make(alloc),
+            &mut self.trail,
+            &mut self.hall,
+            names,
+            loaded,
+            out,
+            processes.as_slice(),
+            waits.as_slice(),
+        )
     }
 }

@@ -8,7 +8,7 @@ use Rattle.fcp_model.specs.Terms.{Term, Bindings}
 use Rattle.fcp_model.specs.Spelling.{Bytes}
 use Rattle.fcp_model.specs.TermText.{cut_text}
 use Rattle.fcp_model.specs.LogText.{both_texts}
-use Rattle.fcp_model.specs.ReportText.{more_arguments, arguments_text}
+use Rattle.fcp_model.specs.ReportText.{more_arguments}
 use Rattle.heap_words.specs.Trails.{WordList, word_at}
 use Rattle.word_states.specs.Words.{Words}
 use Rattle.word_states.specs.Denoting.{Addresses, Denotes, Arguments}

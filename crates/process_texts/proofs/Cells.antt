@@ -2,7 +2,7 @@
 use Rattle.std.proofs.Common.{◌≡◌, ℕ, ◌≤◌, Option, sym, ap, ◌∙◌}
 use Rattle.heap_words.specs.Cells.{decoded}
 use Rattle.heap_words.specs.WordsLaws.{WordsLaws}
-use Rattle.heap_words.specs.Trails.{WordList, word_at, Says, KeepsLoads}
+use Rattle.heap_words.specs.Trails.{WordList, Says, KeepsLoads}
 use Rattle.word_states.specs.Words.{Words}
 use Rattle.unify_terms.specs.WordsOfTries.{memory_of}
 use Rattle.entry_lines.specs.Lines.{HasKept}

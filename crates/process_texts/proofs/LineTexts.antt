@@ -1,13 +1,13 @@
 -- The line of a process is the one that the definitions give.
-use Rattle.std.proofs.Common.{◌≡◌, ℕ, ◌≤◌, List, ◌++◌, Option, Some, refl, sym, ap, ap₂, ◌∙◌, append_assoc, arith}
+use Rattle.std.proofs.Common.{◌≡◌, ℕ, List, ◌++◌, Option, Some, refl, sym, ap, ap₂, ◌∙◌, append_assoc, arith}
 use Rattle.std.specs.Prelude.{codes}
 use Rattle.fcp_model.specs.declared.run.Place.{Place}
 use Rattle.fcp_model.specs.declared.run.Proc.{Proc}
 use Rattle.fcp_model.specs.Programs.{Program}
-use Rattle.fcp_model.specs.States.{Status, ready, waiting, finished, Process, State}
+use Rattle.fcp_model.specs.States.{Status, ready, waiting, finished}
 use Rattle.fcp_model.specs.Spelling.{Bytes, process_text}
 use Rattle.fcp_model.specs.LogText.{places_text}
-use Rattle.fcp_model.specs.ReportText.{goal_text, status_text, process_line}
+use Rattle.fcp_model.specs.ReportText.{status_text}
 use Rattle.heap_words.specs.Cells.{decoded}
 use Rattle.heap_words.specs.Trails.{WordList}
 use Rattle.heap_words.specs.declared.cell.Cell.{Cell}
@@ -15,13 +15,12 @@ use Rattle.heap_words.specs.declared.cell.Cell.TheVariants as cell
 use Rattle.heap_words.specs.declared.cell.Stand.{Stand}
 use Rattle.heap_words.specs.declared.cell.Stand.TheVariants as stand
 use Rattle.word_states.specs.Words.{Words}
-use Rattle.word_states.specs.Standing.{Book, StatusSays}
+use Rattle.word_states.specs.Standing.{StatusSays}
 use Rattle.leading_texts.proofs.Goals.{goal_on}
-use Rattle.entry_lines.specs.Additions.{Adds}
 use Rattle.entry_lines.specs.Lines.{HasKept}
 use Rattle.entry_lines.specs.Reading.{NamesProcess, NamesSet}
 use Rattle.entry_lines.proofs.Adding.{gives_map}
-use Rattle.process_texts.specs.Lines.{AreWaits, IsProcessThere, ProcessLine}
+use Rattle.process_texts.specs.Lines.{AreWaits, ProcessLine}
 use Rattle.process_texts.specs.Reading.{CellRead}
 use Rattle.process_texts.specs.Texts.{stand_text, AddsGoal}
 

@@ -1,20 +1,17 @@
 -- A trial of a process tells the places on which it waits.
-use Rattle.std.proofs.Common.{◌≡◌, ◌⊎◌, ℕ, true, List, [], ◌∷◌, length, refl, sym, ap, ◌∙◌, subst, inl, inr}
+use Rattle.std.proofs.Common.{◌≡◌, ℕ, List, [], ◌∷◌, length, sym, ap, ◌∙◌, subst, inl, inr}
 use Rattle.fcp_model.specs.declared.run.Place.{Place}
 use Rattle.fcp_model.specs.Places.{Variable, places_among, is_listed}
-use Rattle.fcp_model.specs.Programs.{Program}
-use Rattle.fcp_model.specs.Decisions.{Decision, waits_on}
-use Rattle.fcp_model.specs.LawfulStates.{Each, WaitsOn, StandsRight, IsLawfulState}
-use Rattle.fcp_model.specs.States.{Status, ready, waiting, finished, Process, State}
+use Rattle.fcp_model.specs.Decisions.{waits_on}
+use Rattle.fcp_model.specs.LawfulStates.{Each, WaitsOn, StandsRight}
+use Rattle.fcp_model.specs.States.{Status, ready, waiting, finished, Process}
 use Rattle.fcp_model.proofs.OneDecision.{one_decision}
-use Rattle.word_states.specs.Words.{Words}
-use Rattle.word_states.specs.Standing.{Book, StandsFor, StandsAt, ProcessAt}
-use Rattle.word_states.specs.Trials.{WaitSays}
+use Rattle.word_states.specs.Standing.{StandsAt}
 use Rattle.leading_laws.proofs.Decisions.{goals_decide_alike}
 use Rattle.process_texts.specs.Lines.{AreWaits, WaitsAreTold}
 
 -- what is so of each process is so of one that has its words somewhere
-each_stands : (P : Process → Type 0) (as' : List ℕ) (ys : List Process) (p : ℕ) (x : Process) → Each P ys → StandsAt as' ys p x → P x
+pub each_stands : (P : Process → Type 0) (as' : List ℕ) (ys : List Process) (p : ℕ) (x : Process) → Each P ys → StandsAt as' ys p x → P x
 each_stands P [] ys p x h at = absurd at
 each_stands P (a ∷ as') [] p x h at = absurd at
 each_stands P (a ∷ as') (y ∷ ys) p x h (inl e) = subst P e.1 h.0

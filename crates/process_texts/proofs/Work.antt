@@ -1,5 +1,5 @@
 -- The items of an expression: each piece leaves fewer steps, and their words lead to known addresses.
-use Rattle.std.proofs.Common.{◌≡◌, ℕ, suc, ◌+◌, ◌*◌, ◌<◌, List, [], ◌∷◌, ◌++◌, length, Option, Some, None, refl, sym, ap, ◌∙◌, subst, arith}
+use Rattle.std.proofs.Common.{◌≡◌, ℕ, suc, ◌+◌, ◌*◌, ◌<◌, List, ◌∷◌, ◌++◌, length, Option, Some, None, refl, sym, ap, ◌∙◌, subst, arith}
 use Rattle.fcp_model.specs.declared.term.ArithOp.{ArithOp}
 use Rattle.heap_words.specs.WordsLaws.{WordsLaws}
 use Rattle.heap_words.specs.Trails.{WordList, Memory, KeepsLoads}

@@ -4,8 +4,8 @@ use Rattle.std.specs.Prelude.{◌≡◌, ℕ, ◌+◌, List, [], ◌∷◌, ◌+
 use Rattle.fcp_model.specs.declared.run.Place.{Place}
 use Rattle.fcp_model.specs.declared.goal.TheConstants.{TRUE_PROCEDURE, UNIFY_PROCEDURE, ASSIGN_PROCEDURE}
 use Rattle.fcp_model.specs.Places.{Variable}
-use Rattle.fcp_model.specs.Terms.{Term, Bindings}
-use Rattle.fcp_model.specs.Expressions.{Expr, leaf, op}
+use Rattle.fcp_model.specs.Terms.{Term}
+use Rattle.fcp_model.specs.Expressions.{Expr}
 use Rattle.fcp_model.specs.Programs.{Goal, user, true', unifies, assigns, Program}
 use Rattle.fcp_model.specs.Spelling.{Bytes}
 use Rattle.fcp_model.specs.TermText.{cut_text}

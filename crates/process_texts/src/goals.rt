@@ -157,6 +157,8 @@ pub(crate) fn push_goal<W: Words>(
     let Some(count) = number_in(third) else {
         return Ok(());
     };
-    push_called(lists, trail, words, names, loaded, out, process, procedure, count)?;
+    push_called(
+        lists, trail, words, names, loaded, out, process, procedure, count,
+    )?;
     Ok(())
 }

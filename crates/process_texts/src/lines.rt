@@ -104,7 +104,16 @@ pub fn push_process_lines<W: Words>(
         (map (λ v. v.items) waits.now) out.old.items out.new.items) }
 {
     for (at, process) in processes.iter().enumerate() {
-        push_process_line(lists, trail, words, names, loaded, out, *process, waits[at].as_slice())?;
+        push_process_line(
+            lists,
+            trail,
+            words,
+            names,
+            loaded,
+            out,
+            *process,
+            waits[at].as_slice(),
+        )?;
     }
     Ok(())
 }

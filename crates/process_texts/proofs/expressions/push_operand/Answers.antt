@@ -1,4 +1,4 @@
-use Rattle.std.proofs.Common.{◌≡◌, ℕ, List, ◌∷◌, ◌++◌, Option, Some, None, sym, ap, ◌∙◌}
+use Rattle.std.proofs.Common.{◌≡◌, ℕ, List, ◌++◌, Option, Some, None, sym, ap, ◌∙◌}
 use Rattle.fcp_model.specs.declared.term.ArithOp.{ArithOp}
 use Rattle.heap_words.proofs.Keeps.{loaded_twice, still_says}
 use Rattle.ro_unify.specs.Occurs.{stack}

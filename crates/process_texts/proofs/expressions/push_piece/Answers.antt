@@ -1,4 +1,4 @@
-use Rattle.std.proofs.Common.{◌<◌, List, ◌∷◌, sym, subst}
+use Rattle.std.proofs.Common.{◌<◌, ◌∷◌, sym, subst}
 use Rattle.ro_unify.specs.Occurs.{stack}
 use Rattle.ro_unify.specs.Walks.{seen_memory}
 use Rattle.ro_unify.proofs.Seeing.{agrees}

@@ -1,7 +1,4 @@
-use Rattle.std.proofs.Common.{◌≡◌, ◌≤◌, ℕ, ap, ◌∙◌, subst, arith}
-use Rattle.fcp_model.specs.declared.goal.TheConstants.{TRUE_PROCEDURE}
 use Rattle.fcp_model.specs.Translation.{program_of}
-use Rattle.process_texts.specs.Texts.{called}
 use Rattle.process_texts.proofs.GoalTexts.{true_added, none_called, unification_added, assignment_added, call_added}
 use Rattle.process_texts.proofs.goals.push_called.Goals as goal
 
