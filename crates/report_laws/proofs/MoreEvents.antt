@@ -17,7 +17,8 @@ use Rattle.report_laws.proofs.AddedLines.{adds_known, adds_both, both_assoc, bot
 more : (f : Event → Option Bytes) (all : List Event → Option Bytes) → all [] ≡ Some []
     → ((ev : Event) (evs : List Event) → all (ev ∷ evs) ≡ both_texts (f ev) (all evs)) → (evs : List Event) (ev : Event)
     → both_texts (all evs) (f ev) ≡ all (evs ++ ev ∷ [])
-more f all none one [] ev = ap (λ o. both_texts o (f ev)) none ∙ (both_nothing (f ev) ∙ (ap (both_texts (f ev)) (sym none) ∙ sym (one ev [])))
+more f all none one [] ev =
+    ap (λ o. both_texts o (f ev)) none ∙ (both_nothing (f ev) ∙ (ap (both_texts (f ev)) (sym none) ∙ sym (one ev [])))
 more f all none one (e ∷ evs) ev =
     ap (λ o. both_texts o (f ev)) (one e evs)
     ∙ (both_assoc (f e) (all evs) (f ev) ∙ (ap (both_texts (f e)) (more f all none one evs ev) ∙ sym (one e (evs ++ ev ∷ []))))
@@ -37,7 +38,8 @@ module _ (names : List Bytes) (variables : List NamedTerm) (m : Program) where
       adds_both _ _ _ head old new a b
       (λ n. more (λ e. snapshots_at n names variables m e.after e.entry) (snapshot_texts n names variables m) refl (λ e es. refl) evs ev)
 
-  pub nothing_added : (s : State) (e : Entry) (text : Bytes) → (e ≡ Snapshot → ⊥) → Adds text text (λ n. snapshots_at n names variables m s e)
+  pub nothing_added : (s : State) (e : Entry) (text : Bytes) → (e ≡ Snapshot → ⊥)
+      → Adds text text (λ n. snapshots_at n names variables m s e)
   nothing_added s e text other = record { added = []; behind = sym (append-nil text); given = (0, λ k h. none k e other) }
     where
       none : (n : ℕ) (e : Entry) → (e ≡ Snapshot → ⊥) → snapshots_at n names variables m s e ≡ Some []

@@ -1,11 +1,14 @@
 -- The next entry of a run is made again, or memory runs out.
-use Rattle.std.proofs.Common.{◌≡◌, ℕ, List, [], ◌∷◌, ◌++◌, sym, ap, ◌∙◌, subst, arith}
+use Rattle.std.proofs.Common.{◌≡◌, ℕ, List, [], ◌∷◌, ◌++◌, length, sym, ap, ◌∙◌, subst, arith}
 use Rattle.std.proofs.lemmas.Bool.{false≢true}
 use Rattle.fcp_model.specs.declared.run.Entry.{Entry}
 use Rattle.fcp_model.specs.States.{State}
 use Rattle.fcp_model.specs.Events.{Event}
-use Rattle.fcp_model.specs.Runs.{last_state}
+use Rattle.fcp_model.specs.Runs.{last_state, entries_of}
+use Rattle.fcp_model.specs.LawfulStates.{IsLawfulState}
+use Rattle.fcp_model.specs.Translation.{started_goals}
 use Rattle.fcp_laws.specs.Laws.{ALogHasOneHistory}
+use Rattle.state_laws.specs.Laws.{EveryStateIsLawful}
 use Rattle.transition_laws.specs.Laws.{ANextEntryIsAllowedAndDecided}
 use Rattle.log_replay.specs.declared.replay.Replay.{Replay}
 use Rattle.log_replay.specs.declared.answer.Why.{Why}
@@ -23,6 +26,13 @@ stands_by t evs r task made = record {
   standing = record { program = program t; from = first_state t; cells = t.limits.cells; events = evs; replayed = made };
   code = task.code;
 }
+
+-- each state behind such events is lawful
+pub lawful_behind : (t : Task) (evs : List Event) → IsTask t → EveryStateIsLawful → (r : Replay) → IsMade t evs r
+    → IsLawfulState (program t) (last_state (first_state t) evs)
+lawful_behind t evs task law r made =
+    law (program t) (length t.goal.now.0.names) (started_goals t.loaded.now t.goal.now.0) (entries_of evs) evs task.closed task.laid.numbered
+    made.run
 
 module _ (t : Task) (evs : List Event) (e : Entry) (ev : Event) (follows : Follows t evs e ev) where
   abbrev s : State

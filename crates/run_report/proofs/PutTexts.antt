@@ -38,7 +38,8 @@ joined old a b c d e = simp (append_assoc, append-nil) refl
 pub left_put : (c : Control) (old one two three four five : Bytes) → one ≡ old ++ codes "not reached after " → two ≡ one ++ decimal c.after
     → three ≡ two ++ codes " " → four ≡ three ++ act_word c.act → five ≡ four ++ codes "\n" → five ≡ old ++ not_reached_lines (c ∷ [])
 left_put c old one two three four five p q r s t =
-    t ∙ (ap (λ x. x ++ codes "\n") (s ∙ ap (λ x. x ++ act_word c.act) (r ∙ ap (λ x. x ++ codes " ") (q ∙ ap (λ x. x ++ decimal c.after) p)))
+    t
+    ∙ (ap (λ x. x ++ codes "\n") (s ∙ ap (λ x. x ++ act_word c.act) (r ∙ ap (λ x. x ++ codes " ") (q ∙ ap (λ x. x ++ decimal c.after) p)))
     ∙ joined old (codes "not reached after ") (decimal c.after) (codes " ") (act_word c.act) (codes "\n"))
 
 module _ (controls : List Control) (i : ℕ) (had : Bytes) where

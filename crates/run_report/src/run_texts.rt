@@ -43,9 +43,9 @@ fn replay_of(alloc: Global, task: &Task, log: &[Entry]) -> Result<Replay, NoMemo
     Ok(replay)
 }
 
-/// The report of a run of the task, made from its log: the lines of the entries, the end of the log, the outcome, the goal's variables, the
-/// controls that were not reached, and the snapshots. `names` are the strings of the module and the goal. Each entry is made again, so it
-/// takes about the time of the run itself. The only error is want of memory.
+/// The report of a run of the task, made from its log: the lines of the entries, the end of the log, the outcome, the lines of the goal's
+/// variables and of the controls that were not reached, and the snapshots. `names` are the strings of the module and the goal. The only
+/// error is want of memory.
 pub fn report(alloc: Global, names: &Names, task: &Task, run: &Run) -> Result<Vec<u8>, NoMemory>
     requires task { IsTask task.now }
     requires log { HasLog task.now run.now }
@@ -56,8 +56,8 @@ pub fn report(alloc: Global, names: &Names, task: &Task, run: &Run) -> Result<Ve
     draft.close(names, task, run)
 }
 
-/// The snapshot of the state behind so many entries of a run, whether or not one was asked for there. 0 entries are behind the state before
-/// the first entry. The only error is want of memory.
+/// The snapshot of the state behind so many entries of a run, whether or not one was asked for there. Behind 0 entries stands the state
+/// before the first one. The only error is want of memory.
 pub fn snapshot_text(
     alloc: Global,
     names: &Names,

@@ -39,6 +39,7 @@ pub(crate) fn push_snapshot(
     ensures room { room_of replay.new ≡ room_of replay.old }
 {
     report_laws::snapshots();
+    state_laws::lawful_runs();
     push_snapshot_line(out, entries)?;
     replay.goal_lines(names, task.goal, out)?;
     replay.process_lines(alloc, names, task.loaded, task.code, out)?;

@@ -7,5 +7,5 @@ returns c = λ evs draft.
     closed c.args.names.now t c.args.run.now evs c.args.self c.push_end_line.new.text.items c.push_outcome_line.new.text.items
     c.goal_lines.new.out.items c.push_left_controls.new.out.items c.push_bytes.new.text.items c.as_slice.result.now
     c.left_controls.result.now draft c.texts.ensures.report c.in_ok-push_end_line.ensures c.in_ok-push_outcome_line.ensures
-    (c.in_ok-goal_lines.ensures.lines t.loaded.now t.limits.cells evs draft.made) c.left_controls.ensures c.in_ok-push_left_controls.ensures
-    c.as_slice.ensures.value c.in_ok-push_bytes.ensures.ok
+    (c.in_ok-goal_lines.ensures.lines t.loaded.now t.limits.cells evs draft.made) c.left_controls.ensures
+    c.in_ok-push_left_controls.ensures c.as_slice.ensures.value c.in_ok-push_bytes.ensures.ok

@@ -45,7 +45,8 @@ returns-in-Snapshot-clause-draft c = λ evs ev draft follows.
     let all = evs ++ ev ∷ [] in
     let made = c.in_ok-make_next.ensures.made evs ev draft.made follows in
     let lined = c.line.ensures.replayed (program t) (first_state t) t.limits.cells all made.0 in
-    let is = (c.next_entries.ensures.event (program t) (last_state (first_state t) evs) c.args.entry ev follows.is_next).0 ∙ c.in-Snapshot.is in
+    let of_entry = (c.next_entries.ensures.event (program t) (last_state (first_state t) evs) c.args.entry ev follows.is_next).0 in
+    let is = of_entry ∙ c.in-Snapshot.is in
     let length_is = length_on evs ev in
     where_ok c.push_snapshot.result
     (λ put. record {
