@@ -55,12 +55,18 @@ fn calls_that_fail_are_told(rt: HostRuntime) -> Result<(), Fail> {
         b"logix log 1\n1 commit #0.1 1 _0.1=a\nend 1\noutcome terminated\nX = a\n".as_slice();
     let built_in = b"logix log 1\n1 commit #0.1 0\nend 1\noutcome terminated\n".as_slice();
     let shelf = b"logix: shelf fault\n".as_slice();
+    let control = b"logix: control fault at 5\n".as_slice();
+    let unread = Status::Control { at: 5 };
+    let after = "run f p(X) --control after";
     let done = Status::Ended(Outcome::Terminated);
     let rows = [
         ("run f p(X)", NONE, NONE, 66, done, report),
         ("run f p(X)", FIRST, NONE, 66, Status::Shelf, shelf),
         ("run f p(X)", NONE, FIRST, 66, Status::Sink, b""),
         ("run f p(X)", NONE, NONE, 65, Status::Sink, b""),
+        (after, NONE, NONE, 26, unread, control),
+        (after, FIRST, NONE, 26, Status::Shelf, shelf),
+        (after, NONE, FIRST, 26, Status::Sink, b""),
         ("run f true", NONE, NONE, 53, done, built_in),
         ("run f true", NONE, NONE, 52, Status::Sink, b""),
         ("run f true", FIRST, FIRST, 66, Status::Sink, b""),

@@ -63,6 +63,7 @@ fn answer_goal(
     ensures { (file : Bytes) → IsLoadedModule file loaded.now names
         → IfOk result (λ a. AnswersRun limits control.now file goal.now a.status (text_of a.output)) }
 {
+    program_laws::texts_are_closed();
     let mut names = names;
     match load_goal_text(alloc, loaded, goal, &mut names) {
         Ok(goal) => answer_loaded(alloc, &names, loaded, &goal, limits, control),

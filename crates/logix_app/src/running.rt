@@ -1,6 +1,8 @@
 //! The answer to a goal that was loaded for a module: its controls, its run, and the report of the run.
 ghost use Rattle.std.specs.Prelude.{◌≤◌, length, IfOk, IfSome, Option};
+ghost use Rattle.fcp_model.specs.ClosedPrograms.{IsClosed};
 ghost use Rattle.fcp_model.specs.Spelling.{Bytes};
+ghost use Rattle.fcp_model.specs.Translation.{program_of};
 ghost use Rattle.goal_layout.specs.Goals.{MayBeLaid};
 ghost use Rattle.logix_app.specs.Answers.{AnswersRun};
 ghost use Rattle.logix_app.specs.Controls.{AreAsked};
@@ -38,6 +40,7 @@ fn answer_controlled(
     limits: Limits,
     controls: &[Control],
 ) -> Result<Answer, NoMemory>
+    requires closed { IsClosed (program_of loaded.now) }
     requires laid { MayBeLaid loaded.now goal.now }
     requires asked { MayBeAsked limits }
     requires kept { MayBeKept controls.now }
@@ -70,6 +73,7 @@ pub fn answer_loaded(
     limits: Limits,
     control: &Option<Text>,
 ) -> Result<Answer, NoMemory>
+    requires closed { IsClosed (program_of loaded.now) }
     requires laid { MayBeLaid loaded.now goal.now }
     requires asked { MayBeAsked limits }
     requires control { IfSome control.now (λ text. length text ≤ 65536) }

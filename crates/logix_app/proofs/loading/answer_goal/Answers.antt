@@ -1,5 +1,11 @@
+use Rattle.fcp_model.specs.NameList.{reserved_names}
 use Rattle.logix_app.proofs.Loaded.{both-loaded, refused-goal}
 use Rattle.logix_app.proofs.loading.answer_goal.Goals as goal
+
+pub answer_loaded-requires-clause-closed : goal.answer_loaded-requires-clause-closed
+answer_loaded-requires-clause-closed c =
+    let text = c.requires.of_text in
+    c.texts_are_closed.ensures.programs reserved_names text.file c.args.loaded.now text.loaded.is_module
 
 pub returns-in-Ok : goal.returns-in-Ok
 returns-in-Ok c file l =
